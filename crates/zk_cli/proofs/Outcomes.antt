@@ -17,13 +17,14 @@ use Rattle.zk_scenario.specs.Grammar.{scenario_of, read_pieces, pieces_of}
 use Rattle.zk_trace.specs.declared.trace.Ending.{Ending}
 use Rattle.zk_trace.specs.declared.trace.Ending.TheVariants as endings
 use Rattle.zk_cli.specs.declared.form.Form.{Form}
-use Rattle.zk_cli.specs.declared.form.Form.TheVariants.{Replay, Check}
+use Rattle.zk_cli.specs.declared.form.Form.TheVariants.{Replay, Check, Soak}
 use Rattle.zk_cli.specs.declared.form.TheConstants.{LONGEST_TRACE}
 use Rattle.zk_cli.specs.Input.{HasRead}
 use Rattle.zk_cli.specs.Output.{AppendsFront}
 use Rattle.zk_cli.specs.Answer.{IsRun, IsRefusal, IsOutput, status_of}
 use Rattle.zk_cli.specs.CheckAnswer.{IsRefusedSo, too_long, no_scenario, no_trace, IsCheckOutput}
-use Rattle.zk_cli.specs.Top.{form_of, limit_of, IsOutputOf, words_refused, Prints, PrintsFront, HasReadAll, IsAnswer, HasInput, MayRun, MayEnd, Answered, answered, cut_short, unmade, CallOutcome, no_form, no_form_cut, unread, no_memory, printed, cut}
+use Rattle.zk_cli.specs.SoakAnswer.{IsSoakOutput}
+use Rattle.zk_cli.specs.Top.{form_of, limit_of, Reads, input_of, HasGiven, IsOutputOf, words_refused, Prints, PrintsFront, HasReadAll, IsAnswer, HasInput, MayRun, MayEnd, Answered, answered, cut_short, unmade, CallOutcome, no_form, no_form_cut, unread, no_memory, printed, cut}
 
 -- what was not written to stays
 pub Keeps-same : (held : Option (List ℕ)) → Keeps held held
@@ -105,9 +106,11 @@ check-front status n input output is out = elim (cases_lt n (length input)) [
       long_check status (take n input) input output (omega arith) (omega arith) out
 ]
 
-IsOutput-front : (form : Form) (status : Status) (n : ℕ) (input output : List ℕ) → n ≡ limit_of form + 1 → IsOutputOf form status (take n input) output → IsOutputOf form status input output
-IsOutput-front Replay status n input output is out = run-front status n input output is out
-IsOutput-front Check status n input output is out = check-front status n input output is out
+IsOutput-front : (form : Form) → Reads form → (status : Status) (n : ℕ) (input output : List ℕ) → n ≡ limit_of form + 1 → IsOutputOf form status (take n input) output →
+    IsOutputOf form status input output
+IsOutput-front Replay reads status n input output is out = run-front status n input output is out
+IsOutput-front Check reads status n input output is out = check-front status n input output is out
+IsOutput-front (Soak number) reads status n input output is out = absurd reads
 
 -- a status that has an output of a check is one that prints
 IsAnswer-check : (status : Status) (input output : List ℕ) → IsCheckOutput status input output → IsAnswer status
@@ -121,37 +124,74 @@ IsAnswer-check ReadFault input output is = absurd is
 IsAnswer-check WriteFault input output is = absurd is
 IsAnswer-check NoMemory input output is = absurd is
 
+-- and so is one that has an output of a soak
+IsAnswer-soak : (number : ℕ) (status : Status) (output : List ℕ) → IsSoakOutput number status output → IsAnswer status
+IsAnswer-soak number Success output is = tt
+IsAnswer-soak number Stuck output is = tt
+IsAnswer-soak number Spent output is = tt
+IsAnswer-soak number Refused output is = absurd is
+IsAnswer-soak number Words output is = absurd is
+IsAnswer-soak number ReadFault output is = absurd is
+IsAnswer-soak number WriteFault output is = absurd is
+IsAnswer-soak number NoMemory output is = absurd is
+IsAnswer-soak number Unlawful output is = absurd is
+
 IsAnswer-of : (form : Form) (status : Status) (input output : List ℕ) → IsOutputOf form status input output → IsAnswer status
 IsAnswer-of Replay status input output is = IsAnswer-output status input output is
 IsAnswer-of Check status input output is = IsAnswer-check status input output is
+IsAnswer-of (Soak number) status input output is = IsAnswer-soak number status output is
 
-HasReadAll-read : (form : Form) (left left' : Option (List ℕ)) (read : List ℕ) → HasRead (limit_of form) left left' read → HasReadAll form left left'
-HasReadAll-read form None left' read has = tt
-HasReadAll-read form (Some input) None read has = absurd has
-HasReadAll-read form (Some input) (Some rest) read has = ap Some has.1
+given : (many : ℕ) (left left' : Option (List ℕ)) (read : List ℕ) → HasRead many left left' read → HasGiven (many + 1) left left'
+given many None left' read has = tt
+given many (Some input) None read has = absurd has
+given many (Some input) (Some rest) read has = ap Some has.1
 
-Prints-read : (form : Form) (left left' old new : Option (List ℕ)) (read : List ℕ) (status : Status) (output : List ℕ) →
+HasReadAll-read : (form : Form) → Reads form → (left left' : Option (List ℕ)) (read : List ℕ) → HasRead (limit_of form) left left' read → HasReadAll form left left'
+HasReadAll-read Replay reads left left' read has = given (limit_of Replay) left left' read has
+HasReadAll-read Check reads left left' read has = given (limit_of Check) left left' read has
+HasReadAll-read (Soak number) reads left left' read has = absurd reads
+
+-- a form that reads has what is left as its input
+input-left : (form : Form) → Reads form → (left : Option (List ℕ)) → input_of form left ≡ left
+input-left Replay reads left = refl
+input-left Check reads left = refl
+input-left (Soak number) reads left = absurd reads
+
+Prints-read : (form : Form) → Reads form → (left left' old new : Option (List ℕ)) (read : List ℕ) (status : Status) (output : List ℕ) →
     HasRead (limit_of form) left left' read → IsOutputOf form status read output → Appends old new output → Prints left old new (IsOutputOf form status)
-Prints-read form None left' old new read status output has is wrote = tt
-Prints-read form (Some input) None old new read status output has is wrote = absurd has
-Prints-read form (Some input) (Some rest) old new read status output has is wrote =
-    (output, IsOutput-front form status (limit_of form + 1) input output refl (subst (λ (i : List ℕ). IsOutputOf form status i output) has.0 is), wrote)
+Prints-read form reads None left' old new read status output has is wrote = tt
+Prints-read form reads (Some input) None old new read status output has is wrote = absurd has
+Prints-read form reads (Some input) (Some rest) old new read status output has is wrote =
+    (output, IsOutput-front form reads status (limit_of form + 1) input output refl (subst (λ (i : List ℕ). IsOutputOf form status i output) has.0 is), wrote)
 
-PrintsFront-read : (form : Form) (left left' old new : Option (List ℕ)) (read : List ℕ) (status : Status) (output : List ℕ) →
-    HasRead (limit_of form) left left' read → IsOutputOf form status read output → AppendsFront old new output → PrintsFront form left old new
-PrintsFront-read form None left' old new read status output has is wrote = tt
-PrintsFront-read form (Some input) None old new read status output has is wrote = absurd has
-PrintsFront-read form (Some input) (Some rest) old new read status output has is wrote =
-    (status, output, IsOutput-front form status (limit_of form + 1) input output refl (subst (λ (i : List ℕ). IsOutputOf form status i output) has.0 is), wrote)
+PrintsFront-read : (form : Form) → Reads form → (left left' old new : Option (List ℕ)) (read : List ℕ) (status : Status) (output : List ℕ) →
+    HasRead (limit_of form) left left' read → IsOutputOf form status read output → AppendsFront old new output →
+    IfSome left (λ (input : List ℕ). (status : Status) × (output : List ℕ) × IsOutputOf form status input output × AppendsFront old new output)
+PrintsFront-read form reads None left' old new read status output has is wrote = tt
+PrintsFront-read form reads (Some input) None old new read status output has is wrote = absurd has
+PrintsFront-read form reads (Some input) (Some rest) old new read status output has is wrote =
+    (status, output, IsOutput-front form reads status (limit_of form + 1) input output refl (subst (λ (i : List ℕ). IsOutputOf form status i output) has.0 is), wrote)
 
 -- an input that was read and answered
-pub Went-answered : (words : List (List ℕ)) (left left' old new : Option (List ℕ)) (reads reads' writes writes' : ℕ) (status : Status) (form : Form) (read : List ℕ) →
+pub Went-answered : (words : List (List ℕ)) (left left' old new : Option (List ℕ)) (reads reads' writes writes' : ℕ) (status : Status) (form : Form) → Reads form → (read : List ℕ) →
     form_of words ≡ Some form → HasRead (limit_of form) left left' read → Answered form read old new writes writes' status → CallOutcome words left left' old new reads reads' writes writes' status
-Went-answered words left left' old new reads reads' writes writes' status form read asked has (answered status' output is wrote) =
-    printed form status' asked (IsAnswer-of form status' read output is) (HasReadAll-read form left left' read has) (Prints-read form left left' old new read status' output has is wrote)
-Went-answered words left left' old new reads reads' writes writes' status form read asked has (cut_short status' output is wrote rose) =
-    cut form asked (HasReadAll-read form left left' read has) (PrintsFront-read form left left' old new read status' output has is wrote) rose
-Went-answered words left left' old new reads reads' writes writes' status form read asked has (unmade keeps) = no_memory form asked keeps
+Went-answered words left left' old new reads reads' writes writes' status form does read asked has (answered status' output is wrote) =
+    printed form status' asked (IsAnswer-of form status' read output is) (HasReadAll-read form does left left' read has)
+    (subst (λ (x : Option (List ℕ)). Prints x old new (IsOutputOf form status')) (sym (input-left form does left)) (Prints-read form does left left' old new read status' output has is wrote))
+Went-answered words left left' old new reads reads' writes writes' status form does read asked has (cut_short status' output is wrote rose) =
+    cut form asked (HasReadAll-read form does left left' read has)
+    (subst (λ (x : Option (List ℕ)). IfSome x (λ (input : List ℕ). (s : Status) × (o : List ℕ) × IsOutputOf form s input o × AppendsFront old new o)) (sym (input-left form does left))
+    (PrintsFront-read form does left left' old new read status' output has is wrote)) rose
+Went-answered words left left' old new reads reads' writes writes' status form does read asked has (unmade keeps) = no_memory form asked keeps
+
+-- a soak that was answered
+pub Went-soaked : (words : List (List ℕ)) (left old new : Option (List ℕ)) (reads writes writes' : ℕ) (status : Status) (number : ℕ) (input : List ℕ) →
+    form_of words ≡ Some (Soak number) → Answered (Soak number) input old new writes writes' status → CallOutcome words left left old new reads reads writes writes' status
+Went-soaked words left old new reads writes writes' status number input asked (answered status' output is wrote) =
+    printed (Soak number) status' asked (IsAnswer-soak number status' output is) refl (output, is, wrote)
+Went-soaked words left old new reads writes writes' status number input asked (cut_short status' output is wrote rose) =
+    cut (Soak number) asked refl (status', output, is, wrote) rose
+Went-soaked words left old new reads writes writes' status number input asked (unmade keeps) = no_memory (Soak number) asked keeps
 
 -- words that are no form
 pub Went-refused : (words : List (List ℕ)) (left left' old new : Option (List ℕ)) (reads reads' writes writes' : ℕ) (status : Status) →
@@ -173,21 +213,21 @@ module _ (words : List (List ℕ)) (left left' old new : Option (List ℕ)) (rea
 
   -- a status that prints goes with its output
   pub Went-prints : (form : Form) (status which : Status) → Went status → form_of words ≡ Some form → IsAnswer which → status ≡ which →
-      Prints left old new (IsOutputOf form which)
+      Prints (input_of form left) old new (IsOutputOf form which)
   Went-prints form status which (no_form other wrote) asked is same = absurd (no-form (form_of words) other asked)
   Went-prints form status which (no_form_cut other front rose) asked is same = absurd (no-form (form_of words) other asked)
-  Went-prints form status which (unread f asked' rose keeps) asked is same = absurd (subst IsAnswer (sym same) is)
+  Went-prints form status which (unread f does asked' rose keeps) asked is same = absurd (subst IsAnswer (sym same) is)
   Went-prints form status which (no_memory f asked' keeps) asked is same = absurd (subst IsAnswer (sym same) is)
   Went-prints form status which (printed f said asked' is' all prints) asked is same =
-      subst (λ (s : Status). Prints left old new (IsOutputOf form s)) same
-      (subst (λ (f : Form). Prints left old new (IsOutputOf f said)) (one-form (form_of words) asked' asked) prints)
+      subst (λ (s : Status). Prints (input_of form left) old new (IsOutputOf form s)) same
+      (subst (λ (f : Form). Prints (input_of f left) old new (IsOutputOf f said)) (one-form (form_of words) asked' asked) prints)
   Went-prints form status which (cut f asked' all prints rose) asked is same = absurd (subst IsAnswer (sym same) is)
 
   -- status 1 comes only for words that are no form, and says so
   pub Went-words : (status : Status) → Went status → status ≡ Words → (form_of words ≡ None) × Appends old new words_refused
   Went-words status (no_form other wrote) same = (other, wrote)
   Went-words status (no_form_cut other front rose) same = absurd (cc)
-  Went-words status (unread f asked rose keeps) same = absurd (cc)
+  Went-words status (unread f does asked rose keeps) same = absurd (cc)
   Went-words status (no_memory f asked keeps) same = absurd (cc)
   Went-words status (printed f said asked is all prints) same = absurd (subst IsAnswer same is)
   Went-words status (cut f asked all prints rose) same = absurd (cc)
@@ -196,7 +236,7 @@ module _ (words : List (List ℕ)) (left left' old new : Option (List ℕ)) (rea
   pub Went-no_form : (status : Status) → Went status → form_of words ≡ None → (status ≡ Words) ⊎ (status ≡ WriteFault)
   Went-no_form status (no_form other wrote) not = inl refl
   Went-no_form status (no_form_cut other front rose) not = inr refl
-  Went-no_form status (unread f asked rose keeps) not = absurd (no-form (form_of words) not asked)
+  Went-no_form status (unread f does asked rose keeps) not = absurd (no-form (form_of words) not asked)
   Went-no_form status (no_memory f asked keeps) not = absurd (no-form (form_of words) not asked)
   Went-no_form status (printed f said asked is all prints) not = absurd (no-form (form_of words) not asked)
   Went-no_form status (cut f asked all prints rose) not = inr refl
@@ -205,7 +245,7 @@ module _ (words : List (List ℕ)) (left left' old new : Option (List ℕ)) (rea
   pub Went-read_fault : (status : Status) → Went status → status ≡ ReadFault → Rose reads reads'
   Went-read_fault status (no_form other wrote) same = absurd (cc)
   Went-read_fault status (no_form_cut other front rose) same = absurd (cc)
-  Went-read_fault status (unread f asked rose keeps) same = rose
+  Went-read_fault status (unread f does asked rose keeps) same = rose
   Went-read_fault status (no_memory f asked keeps) same = absurd (cc)
   Went-read_fault status (printed f said asked is all prints) same = absurd (subst IsAnswer same is)
   Went-read_fault status (cut f asked all prints rose) same = absurd (cc)
@@ -214,7 +254,7 @@ module _ (words : List (List ℕ)) (left left' old new : Option (List ℕ)) (rea
   pub Went-write_fault : (status : Status) → Went status → status ≡ WriteFault → Rose writes writes'
   Went-write_fault status (no_form other wrote) same = absurd (cc)
   Went-write_fault status (no_form_cut other front rose) same = rose
-  Went-write_fault status (unread f asked rose keeps) same = absurd (cc)
+  Went-write_fault status (unread f does asked rose keeps) same = absurd (cc)
   Went-write_fault status (no_memory f asked keeps) same = absurd (cc)
   Went-write_fault status (printed f said asked is all prints) same = absurd (subst IsAnswer same is)
   Went-write_fault status (cut f asked all prints rose) same = rose
@@ -223,7 +263,7 @@ module _ (words : List (List ℕ)) (left left' old new : Option (List ℕ)) (rea
   pub Went-nothing : (status : Status) → Went status → (status ≡ ReadFault) ⊎ (status ≡ NoMemory) → Keeps old new
   Went-nothing status (no_form other wrote) which = elim which [ inl same ↦ absurd (cc) | inr same ↦ absurd (cc) ]
   Went-nothing status (no_form_cut other front rose) which = elim which [ inl same ↦ absurd (cc) | inr same ↦ absurd (cc) ]
-  Went-nothing status (unread f asked rose keeps) which = keeps
+  Went-nothing status (unread f does asked rose keeps) which = keeps
   Went-nothing status (no_memory f asked keeps) which = keeps
   Went-nothing status (printed f said asked is all prints) which = elim which [ inl same ↦ absurd (subst IsAnswer same is) | inr same ↦ absurd (subst IsAnswer same is) ]
   Went-nothing status (cut f asked all prints rose) which = elim which [ inl same ↦ absurd (cc) | inr same ↦ absurd (cc) ]
@@ -232,7 +272,7 @@ module _ (words : List (List ℕ)) (left left' old new : Option (List ℕ)) (rea
   pub Went-front : (form : Form) (status : Status) → Went status → form_of words ≡ Some form → status ≡ WriteFault → PrintsFront form left old new
   Went-front form status (no_form other wrote) asked same = absurd (cc)
   Went-front form status (no_form_cut other front rose) asked same = absurd (no-form (form_of words) other asked)
-  Went-front form status (unread f asked' rose keeps) asked same = absurd (cc)
+  Went-front form status (unread f does asked' rose keeps) asked same = absurd (cc)
   Went-front form status (no_memory f asked' keeps) asked same = absurd (cc)
   Went-front form status (printed f said asked' is all prints) asked same = absurd (subst IsAnswer same is)
   Went-front form status (cut f asked' all prints rose) asked same = subst (λ (f : Form). PrintsFront f left old new) (one-form (form_of words) asked' asked) prints
@@ -241,7 +281,7 @@ module _ (words : List (List ℕ)) (left left' old new : Option (List ℕ)) (rea
   pub Went-words_front : (status : Status) → Went status → form_of words ≡ None → status ≡ WriteFault → AppendsFront old new words_refused
   Went-words_front status (no_form other wrote) not same = absurd (cc)
   Went-words_front status (no_form_cut other front rose) not same = front
-  Went-words_front status (unread f asked rose keeps) not same = absurd (cc)
+  Went-words_front status (unread f does asked rose keeps) not same = absurd (cc)
   Went-words_front status (no_memory f asked keeps) not same = absurd (cc)
   Went-words_front status (printed f said asked is all prints) not same = absurd (no-form (form_of words) not asked)
   Went-words_front status (cut f asked all prints rose) not same = absurd (no-form (form_of words) not asked)
@@ -250,7 +290,7 @@ module _ (words : List (List ℕ)) (left left' old new : Option (List ℕ)) (rea
   pub Went-read : (form : Form) (status : Status) → Went status → form_of words ≡ Some form → HasInput status → HasReadAll form left left'
   Went-read form status (no_form other wrote) asked has = absurd has
   Went-read form status (no_form_cut other front rose) asked has = absurd (no-form (form_of words) other asked)
-  Went-read form status (unread f asked' rose keeps) asked has = absurd has
+  Went-read form status (unread f does asked' rose keeps) asked has = absurd has
   Went-read form status (no_memory f asked' keeps) asked has = absurd has
   Went-read form status (printed f said asked' is all prints) asked has = subst (λ (f : Form). HasReadAll f left left') (one-form (form_of words) asked' asked) all
   Went-read form status (cut f asked' all prints rose) asked has = subst (λ (f : Form). HasReadAll f left left') (one-form (form_of words) asked' asked) all
@@ -283,6 +323,15 @@ MayEnd-output Check Words input output is = absurd is
 MayEnd-output Check ReadFault input output is = absurd is
 MayEnd-output Check WriteFault input output is = absurd is
 MayEnd-output Check NoMemory input output is = absurd is
+MayEnd-output (Soak number) Success input output is = tt
+MayEnd-output (Soak number) Stuck input output is = tt
+MayEnd-output (Soak number) Spent input output is = tt
+MayEnd-output (Soak number) Refused input output is = absurd is
+MayEnd-output (Soak number) Words input output is = absurd is
+MayEnd-output (Soak number) ReadFault input output is = absurd is
+MayEnd-output (Soak number) WriteFault input output is = absurd is
+MayEnd-output (Soak number) NoMemory input output is = absurd is
+MayEnd-output (Soak number) Unlawful input output is = absurd is
 
 MayEnd-always : (form : Form) (status : Status) → ((input : List ℕ) → MayEnd form input status) → (left : Option (List ℕ)) → IfSome left (λ input. MayEnd form input status)
 MayEnd-always form status may None = tt
@@ -292,21 +341,28 @@ MayEnd-prints : (form : Form) (status : Status) (left old new : Option (List ℕ
 MayEnd-prints form status None old new prints = tt
 MayEnd-prints form status (Some input) old new prints = MayEnd-output form status input prints.0 prints.1
 
+may-unread : (form : Form) → Reads form → (input : List ℕ) → MayEnd form input ReadFault
+may-unread Replay does input = tt
+may-unread Check does input = tt
+may-unread (Soak number) does input = absurd does
+
+may-want : (form : Form) (input : List ℕ) → MayEnd form input NoMemory
+may-want Replay input = tt
+may-want Check input = tt
+may-want (Soak number) input = tt
+
+may-cut : (form : Form) (input : List ℕ) → MayEnd form input WriteFault
+may-cut Replay input = tt
+may-cut Check input = tt
+may-cut (Soak number) input = tt
+
 pub Went-complete : (words : List (List ℕ)) (left left' old new : Option (List ℕ)) (reads reads' writes writes' : ℕ) (form : Form) (status : Status) →
-    CallOutcome words left left' old new reads reads' writes writes' status → form_of words ≡ Some form → IfSome left (λ input. MayEnd form input status)
+    CallOutcome words left left' old new reads reads' writes writes' status → form_of words ≡ Some form → IfSome (input_of form left) (λ input. MayEnd form input status)
 Went-complete words left left' old new reads reads' writes writes' form status (no_form other wrote) asked = absurd (no-form (form_of words) other asked)
 Went-complete words left left' old new reads reads' writes writes' form status (no_form_cut other front rose) asked = absurd (no-form (form_of words) other asked)
-Went-complete words left left' old new reads reads' writes writes' form status (unread f asked' rose keeps) asked = MayEnd-always form ReadFault (may-fault form) left where
-  may-fault : (form : Form) (input : List ℕ) → MayEnd form input ReadFault
-  may-fault Replay input = tt
-  may-fault Check input = tt
-Went-complete words left left' old new reads reads' writes writes' form status (no_memory f asked' keeps) asked = MayEnd-always form NoMemory (may-want form) left where
-  may-want : (form : Form) (input : List ℕ) → MayEnd form input NoMemory
-  may-want Replay input = tt
-  may-want Check input = tt
+Went-complete words left left' old new reads reads' writes writes' form status (unread f does asked' rose keeps) asked =
+    MayEnd-always form ReadFault (may-unread form (subst Reads (one-form (form_of words) asked' asked) does)) (input_of form left)
+Went-complete words left left' old new reads reads' writes writes' form status (no_memory f asked' keeps) asked = MayEnd-always form NoMemory (may-want form) (input_of form left)
 Went-complete words left left' old new reads reads' writes writes' form status (printed f said asked' is all prints) asked =
-    subst (λ (f : Form). IfSome left (λ input. MayEnd f input said)) (one-form (form_of words) asked' asked) (MayEnd-prints f said left old new prints)
-Went-complete words left left' old new reads reads' writes writes' form status (cut f asked' all prints rose) asked = MayEnd-always form WriteFault (may-cut form) left where
-  may-cut : (form : Form) (input : List ℕ) → MayEnd form input WriteFault
-  may-cut Replay input = tt
-  may-cut Check input = tt
+    subst (λ (f : Form). IfSome (input_of f left) (λ input. MayEnd f input said)) (one-form (form_of words) asked' asked) (MayEnd-prints f said (input_of f left) old new prints)
+Went-complete words left left' old new reads reads' writes writes' form status (cut f asked' all prints rose) asked = MayEnd-always form WriteFault (may-cut form) (input_of form left)

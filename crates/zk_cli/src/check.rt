@@ -1,7 +1,8 @@
 ghost use Rattle.std.specs.Prelude.{◌≡◌, ◌+◌, ◌^◌, ◌<◌, ◌≤◌, ◌++◌, length, IfOk, Ok};
 ghost use Rattle.zk_scenario.specs.Grammar.{scenario_of};
+ghost use Rattle.zk_scenario.specs.Spelling.{text_of};
 ghost use Rattle.zk_trace.specs.Parting.{AreParts};
-ghost use Rattle.zk_cli.specs.CheckAnswer.{IsCheckOutput, fail_word, lawful_text, unlawful_text, trace_refused};
+ghost use Rattle.zk_cli.specs.CheckAnswer.{IsCheckOutput, Says, fail_word, lawful_text, unlawful_text, trace_refused};
 ghost use Rattle.zk_cli.specs.declared.form.TheConstants.{LONGEST_TRACE};
 
 use crate::answer::refusal;
@@ -35,6 +36,7 @@ fn checked(
     trace: &[u8],
 ) -> Result<(Vec<u8>, Status), NoMemory>
     requires read { scenario_of front.now ≡ Ok scenario.now }
+    requires spelled { front.now ≡ text_of scenario.now }
     requires parts { AreParts (front.now ++ trace.now) front.now trace.now }
     requires short { length (front.now ++ trace.now) ≤ LONGEST_TRACE }
     ensures { IfOk result (λ made. IsCheckOutput made.1 (front.now ++ trace.now) made.0.items) }

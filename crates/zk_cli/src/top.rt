@@ -1,4 +1,4 @@
-ghost use Rattle.std.specs.Prelude.{◌≡◌, ◌≢◌, ◌⊎◌, true, false, map, codes, IfSome, string_bytes};
+ghost use Rattle.std.specs.Prelude.{◌≡◌, ◌≢◌, ◌⊎◌, ℕ, List, Some, None, map, IfSome, string_bytes};
 ghost use Rattle.std.specs.Io.KnownBytes.{Appends, Keeps};
 ghost use Rattle.zk_base.specs.Causes.{Rose};
 ghost use Rattle.zk_cli.specs.Output.{AppendsFront};
@@ -81,12 +81,30 @@ fn plain<S: Source, K: Sink>(
 {
     match form_of(words) {
         None => refuse_words(sink),
+        Some(Form::Replay) => over_input(alloc, Form::Replay, source, sink),
+        Some(Form::Check) => over_input(alloc, Form::Check, source, sink),
         Some(Form::Soak(number)) => answer(alloc, Form::Soak(number), Vec::new(alloc), sink),
-        Some(form) => match read_input(alloc, source, limit_of(form)) {
-            Ok(input) => answer(alloc, form, input, sink),
-            Err(NoInput::Fault) => Status::ReadFault,
-            Err(NoInput::NoMemory) => Status::NoMemory,
-        },
+    }
+}
+
+/// Reads the input of a form, and prints the output for it.
+fn over_input<S: Source, K: Sink>(
+    alloc: Global,
+    form: Form,
+    source: &mut S,
+    sink: &mut K,
+) -> Status
+    requires { Reads form }
+    ensures went { (words : List (List ℕ)) → form_of words ≡ Some form →
+        CallOutcome words (S.left source.old) (S.left source.new) (K.held sink.old) (K.held sink.new)
+        (S.faults source.old) (S.faults source.new) (K.faults sink.old) (K.faults sink.new) result }
+    ensures reads { result ≢ Status.ReadFault → S.faults source.new ≡ S.faults source.old }
+    ensures writes { result ≢ Status.WriteFault → K.faults sink.new ≡ K.faults sink.old }
+{
+    match read_input(alloc, source, limit_of(form)) {
+        Ok(input) => answer(alloc, form, input, sink),
+        Err(NoInput::Fault) => Status::ReadFault,
+        Err(NoInput::NoMemory) => Status::NoMemory,
     }
 }
 
