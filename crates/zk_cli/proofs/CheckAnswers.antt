@@ -11,6 +11,8 @@ use Rattle.zk_scenario.specs.declared.refused.ScenarioRefused.{ScenarioRefused}
 use Rattle.zk_scenario.specs.declared.refused.Why.TheVariants as why
 use Rattle.zk_scenario.specs.Grammar.{scenario_of}
 use Rattle.zk_scenario.specs.Spelling.{text_of}
+use Rattle.zk_trace.specs.declared.trace.Ending.{Ending}
+use Rattle.zk_trace.specs.declared.trace.Ending.TheVariants as endings
 use Rattle.zk_trace.specs.declared.trace.Trace.{Trace}
 use Rattle.zk_trace.specs.Feeds.{lines_in}
 use Rattle.zk_trace.specs.Form.{IsInForm}
@@ -25,9 +27,10 @@ use Rattle.zk_check.specs.declared.verdict.Checked.{Checked}
 use Rattle.zk_check.specs.declared.verdict.Checked.TheVariants.{Lawful, Not}
 use Rattle.zk_check.specs.Checking.{IfNot, IsNamed}
 use Rattle.zk_cli.specs.declared.form.TheConstants.{LONGEST_TRACE}
-use Rattle.zk_cli.specs.Answer.{IsRefusal}
+use Rattle.zk_cli.specs.Answer.{IsRefusal, status_of}
 use Rattle.zk_cli.specs.CheckAnswer.{IsTraceOf, IsTraceRefusal, too_long, no_scenario, no_trace, trace_refused, unlawful_text, IsCheckOutput, Says}
 use Rattle.zk_cli.specs.Refusal.{refusal_text}
+use Rattle.zk_cli.specs.SoakAnswer.{IsSoak, IsSoakOutput}
 
 same-scenario : {s t : Content} {said : Result Content ScenarioRefused} → said ≡ Ok s → said ≡ Ok t → s ≡ t
 same-scenario one other = let both = sym one ∙ other in cc
@@ -71,9 +74,9 @@ pub trace-refused : (front trace output : List ℕ) (s : Content) (line : ℕ) �
     IsRefusedAt s trace (1 + length (lines_in front)) line → output ≡ trace_refused line → IsTraceRefusal (front ++ trace) output
 trace-refused front trace output s line read parts short none refused says = record {
   never = λ other t given.
-    let same = one-run front trace parts other t given in
-    let one : s ≡ other = same-scenario read (ap scenario_of same.0 ∙ given.scenario) in
-    none t (subst (λ (x : Content). IsInForm x t) (sym one) given.form) (same.1 ∙ ap (λ (x : Content). trace_text x t) (sym one));
+      let same = one-run front trace parts other t given in
+      let one : s ≡ other = same-scenario read (ap scenario_of same.0 ∙ given.scenario) in
+      none t (subst (λ (x : Content). IsInForm x t) (sym one) given.form) (same.1 ∙ ap (λ (x : Content). trace_text x t) (sym one));
   why_so = no_trace front trace s line short parts read refused says;
 }
 
@@ -82,10 +85,10 @@ pub scenario-refused : (front trace output : List ℕ) (e : ScenarioRefused) →
     length (front ++ trace) ≤ LONGEST_TRACE → IsRefusal (scenario_of front) output → IsTraceRefusal (front ++ trace) output
 scenario-refused front trace output e read parts short says = record {
   never = λ s t given.
-    let same = one-run front trace parts s t given in
-    let good = ap scenario_of same.0 ∙ given.scenario in
-    let both = sym read ∙ good in
-    absurd (cc);
+      let same = one-run front trace parts s t given in
+      let good = ap scenario_of same.0 ∙ given.scenario in
+      let both = sym read ∙ good in
+      absurd (cc);
   why_so = no_scenario front trace short parts says;
 }
 
@@ -100,3 +103,9 @@ length-refused input output long says = record {
 pub lines-few : (front trace : List ℕ) → length (front ++ trace) ≤ LONGEST_TRACE → length (lines_in front) ≤ LONGEST_TRACE
 lines-few front trace short =
     omega (arith, lines-count front, count_by-le-length (λ b. eqb b line_feed) front, length-append front trace, short)
+
+-- a soak is the answer of the status that its ending has
+pub soak-output : (ending : Ending) (number : ℕ) (output : List ℕ) → IsSoak ending number output → IsSoakOutput number (status_of ending) output
+soak-output endings.Ended number output soak = soak
+soak-output endings.Stuck number output soak = soak
+soak-output endings.Spent number output soak = soak

@@ -1,4 +1,4 @@
-ghost use Rattle.std.specs.Prelude.{◌≡◌, ◌≢◌, ◌⊎◌, ℕ, List, Some, None, map, IfSome, string_bytes};
+ghost use Rattle.std.specs.Prelude.{◌≡◌, ◌≢◌, ◌⊎◌, ℕ, List, Some, None, map, IfOk, IfSome, string_bytes};
 ghost use Rattle.std.specs.Io.KnownBytes.{Appends, Keeps};
 ghost use Rattle.zk_base.specs.Causes.{Rose};
 ghost use Rattle.zk_cli.specs.Output.{AppendsFront};
@@ -11,7 +11,7 @@ use crate::input::{NoInput, read_input};
 use crate::output::write_text;
 use crate::soak::soak_output;
 use std::alloc::Global;
-use zk_base::{Sink, Source, Status};
+use zk_base::{NoMemory, Sink, Source, Status};
 
 /// The program over any source and any sink. `replay` reads a scenario, plays it on one thread by round robin, and prints
 /// the scenario's text and the trace. `check` reads that again, and says whether the trace is lawful for the scenario, or at
@@ -88,12 +88,7 @@ fn plain<S: Source, K: Sink>(
 }
 
 /// Reads the input of a form, and prints the output for it.
-fn over_input<S: Source, K: Sink>(
-    alloc: Global,
-    form: Form,
-    source: &mut S,
-    sink: &mut K,
-) -> Status
+fn over_input<S: Source, K: Sink>(alloc: Global, form: Form, source: &mut S, sink: &mut K) -> Status
     requires { Reads form }
     ensures went { (words : List (List ℕ)) → form_of words ≡ Some form →
         CallOutcome words (S.left source.old) (S.left source.new) (K.held sink.old) (K.held sink.new)
@@ -125,16 +120,22 @@ fn answer<K: Sink>(alloc: Global, form: Form, input: Vec<u8>, sink: &mut K) -> S
     ensures answered { Answered form input.items (K.held sink.old) (K.held sink.new) (K.faults sink.old) (K.faults sink.new) result }
     ensures writes { result ≢ Status.WriteFault → K.faults sink.new ≡ K.faults sink.old }
 {
-    let made = match form {
-        Form::Replay => output_of(alloc, input),
-        Form::Check => check_output(alloc, input),
-        Form::Soak(number) => soak_output(alloc, number),
-    };
-    let Ok((output, status)) = made else {
+    let Ok((output, status)) = form_output(alloc, form, input) else {
         return Status::NoMemory;
     };
     match write_text(sink, &output) {
         Ok(()) => status,
         Err(_) => Status::WriteFault,
+    }
+}
+
+/// The whole output of a form for this input, and the status that goes with it.
+fn form_output(alloc: Global, form: Form, input: Vec<u8>) -> Result<(Vec<u8>, Status), NoMemory>
+    ensures { IfOk result (λ made. IsOutputOf form made.1 input.items made.0.items) }
+{
+    match form {
+        Form::Replay => output_of(alloc, input),
+        Form::Check => check_output(alloc, input),
+        Form::Soak(number) => soak_output(alloc, number),
     }
 }
