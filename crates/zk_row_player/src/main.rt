@@ -4,6 +4,7 @@
 
 mod changes;
 mod checking;
+mod kept;
 mod play;
 mod reading;
 mod rows;

@@ -85,7 +85,8 @@ pub fn put_readings(
     put(out, b"\n")
 }
 
-fn put_came(out: &mut Vec<u8>, came: Reading) -> Result<(), NoMemory> {
+/// Says so.
+pub fn put_came(out: &mut Vec<u8>, came: Reading) -> Result<(), NoMemory> {
     match came {
         Reading::Same => put(out, b"read"),
         Reading::Otherwise => put(out, b"misread"),

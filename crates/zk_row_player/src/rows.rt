@@ -1,4 +1,5 @@
 use crate::checking::{put_checks, put_unlawful};
+use crate::kept::put_kept;
 use crate::play::{Played, play};
 use crate::reading::{is_read_again, put_readings};
 use crate::spelled::{put_spelled, put_times};
@@ -15,6 +16,7 @@ use zk_base::{NoMemory, Status, SureSink, put, put_decimal};
 ///     $ PIECE        plays the text: the status, and whether the output ends with this piece
 ///     ? CHANGE       plays the text, and reads the trace changed in this way
 ///     ? check CHANGE plays the text, and checks the trace changed in this way
+///     &              reads the trace that stands in the text: each entry, look and answer of it
 ///
 /// Each trace that is played is read and printed again, and checked. Where it isn't the same, `misread` is printed, and where
 /// it isn't said to be lawful, what is said.
@@ -43,6 +45,7 @@ fn put_row(
         [b'!', ..] => put_play(alloc, out, text, line),
         [b'$', piece @ ..] => put_end(alloc, out, text, piece),
         [b'?', ..] => put_change(alloc, out, text, line),
+        [b'&'] => put_kept(alloc, out, text),
         _ => put_line(text, line.as_bytes()),
     }
 }

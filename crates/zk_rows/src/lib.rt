@@ -1,5 +1,6 @@
-//! Tests alone, of lines, scenarios' look-ups, players, traces and runs: what only a test can do. Scenarios with what is printed of
-//! them are rows of `zk_row_player`. They stand in a crate of their own since a crate that has tests is proved once more with them.
+//! Tests alone, of lines, scenarios' look-ups, players and faults: what only a test can do. Scenarios with what is printed of
+//! them, and traces with what is read of them, are rows of `zk_row_player`. They stand in a crate of their own since a crate that
+//! has tests is proved once more with them.
 #![tactic(auto)]
 
 #[cfg(test)]
@@ -7,12 +8,8 @@ mod line_tests;
 #[cfg(test)]
 mod player_tests;
 #[cfg(test)]
-mod reading_tests;
-#[cfg(test)]
-mod replay_tests;
-#[cfg(test)]
 mod run_tests;
 #[cfg(test)]
 mod table_tests;
 #[cfg(test)]
-mod trace_tests;
+mod texts;

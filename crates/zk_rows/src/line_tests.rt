@@ -1,5 +1,5 @@
 //! Lines, numbers and calls by themselves.
-use crate::reading_tests::text_of;
+use crate::texts::text_of;
 use std::process::Abort;
 use std::test::Fail;
 use zk_line::{Call, Event, Events, MOST_EVENTS, Ref, said_of};

@@ -1,5 +1,5 @@
 //! A player by hand: each step with the reply that it is given, and what the player answers.
-use crate::reading_tests::text_of;
+use crate::texts::text_of;
 use std::alloc::Global;
 use std::process::Abort;
 use std::test::Fail;

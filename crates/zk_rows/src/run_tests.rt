@@ -1,5 +1,5 @@
 //! Each fault of reading and writing in turn, through the top call over memory.
-use crate::reading_tests::text_of;
+use crate::texts::text_of;
 use std::alloc::Global;
 use std::process::Abort;
 use std::test::Fail;
@@ -7,13 +7,13 @@ use zk_base::{MemSink, MemSource, NoMemory, Sink, Source, Status, SureSink, Sure
 use zk_cli::zk_plain;
 
 /// Two threads, one queue, three items.
-pub const FRONT: &str =
+const FRONT: &str =
     "zk 1\nthread t0 0 super\nthread t1 0 super\nqueue q0 0 on\nitem w0\nitem w1\nitem w2\n";
 
 /// One submission behind them, and the trace part that is printed behind it.
-pub const ONE_SUBMISSION: &str = "script t0\nsubmit w0 q0\nend\n";
+const ONE_SUBMISSION: &str = "script t0\nsubmit w0 q0\nend\n";
 
-pub const ITS_TRACE: &str =
+const ITS_TRACE: &str =
     "zt 1\nended\nservice work\nt0.0 submit w0 q0 = 1 a0 q0\nq0.0 begin q0 = w0 a0\n\
      q0.1 end q0 = ok\nplayer t0 done\n0 submit = 1\nplayer t1 done\nplayer q0 done\n";
 
