@@ -270,8 +270,8 @@ impl Plain {
         let Some(Some(item)) = self.items.get(object as usize) else {
             unreachable!()
         };
-        let (flags, front) = self.work.seen(*item);
-        StepReply::Flags(flags as u8, front)
+        let flags = self.work.word(*item) as u8;
+        StepReply::Flags(flags, self.work.history().len() as u64)
     }
 
     /// What was last written to the signal of this object number. Nothing comes where it has to be raised and isn't.

@@ -1,9 +1,7 @@
 ghost use Rattle.std.specs.Prelude.{◌≡◌, ◌≢◌, ◌≤◌, [], length, AllPairs, IfOk};
-ghost use Rattle.zk_base.specs.Legal.{state_after};
-ghost use Rattle.zk_model_work.specs.Machine.{work_machine};
 ghost use Rattle.zk_model_work.specs.State.{start_of};
 ghost use Rattle.zk_work.specs.Seen.{work_start, work_history};
-ghost use Rattle.zk_work.specs.Words.{most_items, most_queues, work_word};
+ghost use Rattle.zk_work.specs.Words.{most_items, most_queues};
 
 use crate::engine::{MOST_ITEMS, WorkEngine};
 use std::alloc::Global;
@@ -39,14 +37,6 @@ impl Work {
         Ok(Work {
             inner: Recorded::new(alloc, start, engine),
         })
-    }
-
-    /// What a look at an item finds now: its busy flags, and how many entries there are.
-    pub fn seen(&self, item: u32) -> (u32, u64)
-        ensures flags { result.0 ≡ work_word (state_after work_machine (work_start self.now) (work_history self.now)) item }
-        ensures front { result.1 ≡ length (work_history self.now) }
-    {
-        (self.inner.word(item), self.inner.history().len() as u64)
     }
 }
 
