@@ -56,7 +56,7 @@ impl<S: Service> Cell<S> {
             room: _,
             front: _,
         } = pass;
-        let Cell { table } = self;
+        let Cell { table, sleepers: _ } = self;
         let mut closed = table.close_with(seat);
         let Some(service) = closed.take(0) else {
             unreachable!()
