@@ -4,6 +4,7 @@ use crate::rule::{Beginning, TurnRule};
 use crate::views::View;
 use atomic_table::Table;
 use std::alloc::Global;
+use std::sync::atomic::AtomicU64;
 use zk_base::Service;
 
 /// A service that one caller at a time may use: whoever draws a ticket gets its turn when that number is served.
@@ -19,5 +20,7 @@ pub struct Cell<S: Service> {
         TurnRule<S>,
         Global,
     >,
+    // How many callers sleep, or are about to.
+    pub(crate) sleepers: AtomicU64,
     ghost shape: { (table.shared.table_id.words ≡ 3) × (table.shared.table_id.slots ≡ 1) },
 }

@@ -12,6 +12,7 @@ use crate::views::View;
 use atomic_table::{Seat, Table};
 use std::alloc::Global;
 use std::snapshot::Snapshot;
+use std::sync::atomic::AtomicU64;
 use zk_base::{NoMemory, Service, Who, push_within};
 
 // The entries that one player may add, so that a history stays far below 2^32.
@@ -45,7 +46,10 @@ impl<S: Service> Cell<S> {
         let Ok((table, mut seat)) = Table::new(alloc, &[0, 0, 0], slots, &beginning) else {
             return Err(NoMemory);
         };
-        let cell = Cell { table };
+        let cell = Cell {
+            table,
+            sleepers: AtomicU64::new(0),
+        };
         cell.deal_all(&mut seat, players, &mut passes);
         Ok((cell, passes))
     }

@@ -5,7 +5,7 @@ ghost use Rattle.zk_turn.specs.declared.views.Stage.TheVariants.{Idle, Waiting};
 ghost use Rattle.zk_turn.specs.Players.{GoesOn, own};
 ghost use Rattle.zk_turn.specs.Views.{staged};
 ghost use Rattle.zk_turn.specs.Steps.{Took, Fits};
-ghost use Rattle.zk_turn.specs.Passes.{IsPassOf, IsHeldOf, IsReady, IsPublished, MayPass, pass_players, pass_who, pass_seen, pass_mine, pass_holds, pass_room, held_players, held_who, held_room, held_holds, has_added, service_of};
+ghost use Rattle.zk_turn.specs.Passes.{IsPassOf, IsHeldOf, IsReady, IsPublished, MayPass, pass_players, pass_who, pass_seen, pass_mine, pass_holds, pass_room, held_players, held_who, held_room, held_holds, has_added, has_looked, service_of};
 
 use crate::cell::Cell;
 use crate::held::Held;
@@ -14,6 +14,8 @@ use crate::rule::{Await, Draw, PassOn, Publish};
 use crate::views::View;
 use atomic_table::Seat;
 use std::sync::Wait;
+use std::sync::atomic::Ordering::SeqCst;
+use std::{hint, thread};
 use zk_base::Service;
 
 // The words of a cell: the tickets drawn, the ticket served, and the length of the history, each modulo 2^64.
@@ -23,8 +25,9 @@ const SERVING: usize = 1;
 
 const COUNT: usize = 2;
 
-// How often a caller looks whether its ticket is served before it sleeps.
-const LOOKS: u32 = 100;
+// How often a caller looks whether its ticket is served before it sleeps: for longer than it takes to wake a thread,
+// since else all sleep once one does.
+const LOOKS: u32 = 1_000;
 
 impl<S: Service> Cell<S> {
     /// Waits for the turn, and takes the service.
@@ -35,13 +38,14 @@ impl<S: Service> Cell<S> {
         requires own { IsPassOf (IsLegal S.machine) S.start self.now pass }
         requires room { 0 < pass_room pass }
 
-        // It is a turn of this cell for the player of the pass, in which no entry was added yet.
+        // It is a turn of this cell for the player of the pass, in which no entry was added yet and no look was made.
         ensures own { IsHeldOf (IsLegal S.machine) S.start S.history self.now result }
         ensures players { held_players result ≡ pass_players pass }
         ensures who { held_who result ≡ pass_who pass }
         ensures room { held_room result ≡ pass_room pass }
         ensures holds { held_holds result ≡ pass_holds pass + 1 }
         ensures fresh { has_added result ≡ false }
+        ensures unlooked { has_looked result ≡ false }
 
         // The history goes on from what the pass had seen with entries of others: of its players it has what the pass made.
         ensures seen { GoesOn (pass_players pass) (pass_seen pass) (S.history (service_of result)) }
@@ -64,10 +68,11 @@ impl<S: Service> Cell<S> {
             who,
             room,
             added: false,
+            looked: false,
         }
     }
 
-    // Waits until the ticket is served, and takes the service's slot: looks some times, and then sleeps between two looks.
+    // Waits until the ticket is served, and takes the service's slot: looks some times, and then sleeps before it looks again.
     fn await_turn<R: Wait>(
         &self,
         rt: &R,
@@ -87,13 +92,22 @@ impl<S: Service> Cell<S> {
             }
             if looks < LOOKS {
                 looks += 1;
-                std::hint::spin_loop();
+                pause(ticket.wrapping_sub(served));
             } else {
-                let low = (served % 4_294_967_296) as u32;
-                self.table.shared.park(rt, SERVING, low);
+                looks = 0;
+                self.sleep(rt, served);
             }
         }
         unreachable!()
+    }
+
+    // Sleeps as long as this ticket is served. It counts itself among the sleepers first: whoever serves the next ticket
+    // before that is seen when it begins to sleep, and whoever serves it later sees the count.
+    fn sleep<R: Wait>(&self, rt: &R, served: u64) {
+        let low = (served % 4_294_967_296) as u32;
+        self.sleepers.fetch_add(1, SeqCst);
+        self.table.shared.park(rt, SERVING, low);
+        self.sleepers.fetch_sub(1, SeqCst);
     }
 
     /// Gives the service back, and the turn to the next ticket.
@@ -117,6 +131,7 @@ impl<S: Service> Cell<S> {
             who,
             room,
             added,
+            looked: _,
         } = held;
         let front = service.history().len() as u64;
         let None = self.table.shared.exchange(&mut seat, 0, Some(service)) else {
@@ -132,6 +147,13 @@ impl<S: Service> Cell<S> {
         }
     }
 
+    /// Whether the history has more entries than the pass has seen, by one load and without a turn.
+    ///
+    /// It is a hint: more may have come by the time that it answers, and the turn of a new entry may not be over yet.
+    pub fn has_grown(&self, pass: &Pass<S>) -> bool {
+        self.table.shared.peek(COUNT) != pass.front
+    }
+
     // Counts the entry, where one was added.
     fn publish(&self, seat: &mut Seat<Option<S>, View<S::Op, S::Reply, S::State>>, added: bool)
         requires table { seat.old.table_id ≡ self.now.table.shared.table_id }
@@ -144,18 +166,26 @@ impl<S: Service> Cell<S> {
         }
     }
 
-    // Serves the next ticket, and wakes who sleeps where one was drawn by then.
+    // Serves the next ticket, and wakes all who sleep, if somebody does.
     fn pass_on(&self, seat: &mut Seat<Option<S>, View<S::Op, S::Reply, S::State>>)
         requires table { seat.old.table_id ≡ self.now.table.shared.table_id }
         requires ready { MayPass (Fits S.start S.history) seat.old.me }
         ensures table { seat.new.table_id ≡ seat.old.table_id }
         ensures passed { seat.new.me ≡ (staged seat.old.me.0 Idle, rest seat.old.me.1) }
     {
-        let served = self.table.shared.fetch_add::<PassOn<S>>(seat, SERVING, 1);
-        // Whoever draws a ticket after this look finds the word as it is now. One that sleeps isn't picked out, since the
-        // one whose ticket is served has to be among those who wake.
-        if self.table.shared.peek(TICKET) != served.wrapping_add(1) {
+        self.table.shared.fetch_add::<PassOn<S>>(seat, SERVING, 1);
+        // One that sleeps isn't picked out, since the one whose ticket is served has to be among those who wake.
+        if self.sleepers.load(SeqCst) != 0 {
             self.table.shared.wake_all(SERVING);
         }
+    }
+}
+
+// Passes the time between two looks: who is next looks again at once, and who is further behind lets others run.
+fn pause(behind: u64) {
+    if behind > 1 {
+        thread::yield_now();
+    } else {
+        hint::spin_loop();
     }
 }

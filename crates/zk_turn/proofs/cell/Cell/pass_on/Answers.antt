@@ -4,8 +4,8 @@ use Rattle.zk_turn.specs.Steps.{Fits}
 use Rattle.zk_turn.proofs.Keeping.{passes_on}
 use Rattle.zk_turn.proofs.cell.Cell.pass_on.Goals as goal
 
-pub fetch_add-served-requires : goal.fetch_add-served-requires
-fetch_add-served-requires g c =
+pub fetch_add-requires : goal.fetch_add-requires
+fetch_add-requires g c =
     let shared = c.args.self.now.table.shared in
     let three = c.args.self.now.«shape».0 in
     let wide : 1 < shared.table_id.words = omega arith in (
