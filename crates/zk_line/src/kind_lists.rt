@@ -1,9 +1,9 @@
-ghost use Rattle.std.specs.Prelude.{◌≡◌, ◌<◌, [], vec_len, vec_capacity};
+ghost use Rattle.std.specs.Prelude.{◌≡◌, ◌<◌, [], IfOk, vec_len, vec_capacity};
 ghost use Rattle.zk_line.specs.Objects.{is_thread, is_queue, is_item, is_sem, is_msgq, is_signal, is_chan, is_observer, with_object};
 
 use crate::types::Decl;
 use std::alloc::Global;
-use zk_base::push_within;
+use zk_base::{NoMemory, push_within};
 
 /// The object numbers of the declarations of each kind, in order.
 #[derive(Drop)]
@@ -41,6 +41,29 @@ impl Lists {
             chans: Vec::new(alloc),
             observers: Vec::new(alloc),
         }
+    }
+
+    /// The same lists, in memory of their own.
+    pub fn copy(&self, alloc: Global) -> Result<Lists, NoMemory>
+        ensures threads { IfOk result (λ lists. lists.threads.items ≡ self.now.threads.items) }
+        ensures queues { IfOk result (λ lists. lists.queues.items ≡ self.now.queues.items) }
+        ensures items { IfOk result (λ lists. lists.items.items ≡ self.now.items.items) }
+        ensures sems { IfOk result (λ lists. lists.sems.items ≡ self.now.sems.items) }
+        ensures msgqs { IfOk result (λ lists. lists.msgqs.items ≡ self.now.msgqs.items) }
+        ensures signals { IfOk result (λ lists. lists.signals.items ≡ self.now.signals.items) }
+        ensures chans { IfOk result (λ lists. lists.chans.items ≡ self.now.chans.items) }
+        ensures observers { IfOk result (λ lists. lists.observers.items ≡ self.now.observers.items) }
+    {
+        Ok(Lists {
+            threads: Vec::from_slice(alloc, &self.threads)?,
+            queues: Vec::from_slice(alloc, &self.queues)?,
+            items: Vec::from_slice(alloc, &self.items)?,
+            sems: Vec::from_slice(alloc, &self.sems)?,
+            msgqs: Vec::from_slice(alloc, &self.msgqs)?,
+            signals: Vec::from_slice(alloc, &self.signals)?,
+            chans: Vec::from_slice(alloc, &self.chans)?,
+            observers: Vec::from_slice(alloc, &self.observers)?,
+        })
     }
 }
 

@@ -1,4 +1,4 @@
-ghost use Rattle.std.specs.Prelude.{◌≡◌, ℕ, List, Some, None, if◌then◌else◌, OnOk, OnErr};
+ghost use Rattle.std.specs.Prelude.{◌≡◌, ℕ, List, Some, None, if◌then◌else◌, OnOk, OnErr, IfOk};
 ghost use Rattle.std.specs.Str.{bytes_eq};
 ghost use Rattle.zk_line.specs.ByName.{by_name};
 
@@ -38,5 +38,14 @@ impl Names {
         let name = Vec::from_slice(alloc, name)?;
         self.numbers.insert(name, number)?;
         Ok(())
+    }
+
+    /// The same numbers under the same names, in memory of their own.
+    pub fn copy(&self) -> Result<Names, NoMemory>
+        ensures { IfOk result (λ names. (name : List ℕ) → by_name names name ≡ by_name self.now name) }
+    {
+        Ok(Names {
+            numbers: self.numbers.clone()?,
+        })
     }
 }

@@ -1,4 +1,4 @@
-ghost use Rattle.std.specs.Prelude.{◌≡◌, ◌-◌, ◌^◌, ◌<◌, None, [], ◌∷◌, ◌++◌, OnOk, OnErr, length, count_by};
+ghost use Rattle.std.specs.Prelude.{◌≡◌, ◌-◌, ◌^◌, ◌<◌, None, [], ◌∷◌, ◌++◌, OnOk, OnErr, IfOk, length, count_by};
 ghost use Rattle.zk_line.specs.Objects.{counts_with, object_of, is_thread, is_queue, is_item, is_sem, is_msgq, is_signal, is_chan, is_observer, name_of, places, number_of, player_count};
 
 use crate::kind_lists::{Lists, add_to_kind};
@@ -221,5 +221,17 @@ impl Objects {
         push_within(&mut self.numbers, number);
         push_within(&mut self.decls, decl);
         Ok(())
+    }
+
+    /// The same declarations, in memory of their own.
+    pub fn copy(&self, alloc: Global) -> Result<Objects, NoMemory>
+        ensures copy { IfOk result (λ objects. objects ≡ self.now) }
+    {
+        Ok(Objects {
+            decls: Vec::from_slice(alloc, &self.decls)?,
+            lists: self.lists.copy(alloc)?,
+            numbers: Vec::from_slice(alloc, &self.numbers)?,
+            names: self.names.copy()?,
+        })
     }
 }

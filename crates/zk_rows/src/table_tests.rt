@@ -1,8 +1,8 @@
-//! What a scenario's look-ups answer.
+//! What a scenario's look-ups answer, and those of its copy.
 use std::alloc::Global;
 use std::process::Abort;
 use std::test::Fail;
-use zk_scenario::{Scenario, read_scenario};
+use zk_scenario::{Scenario, print_scenario, read_scenario};
 
 /// A text, the objects of each kind, how many lines declare objects and permissions, each object with
 /// its number among those of its kind, each player with its priority, and how many scripts there are
@@ -131,11 +131,37 @@ fn look_ups_answer_from_their_tables(rt: HostRuntime) -> Result<(), Fail> {
     Ok(())
 }
 
+/// A copy of the scenario of a text. What was read is gone.
+fn copied(alloc: Global, text: &str) -> Result<Scenario, Fail> {
+    let scenario = read(alloc, text)?;
+    let copied = scenario.copy(alloc)?;
+    Ok(copied)
+}
+
 #[test]
-fn an_object_is_found_by_its_name(rt: HostRuntime) -> Result<(), Fail> {
-    let scenario = read(rt.alloc(), "zk 1\nthread t0 0 super\nsem s0 0 1\n")?;
+fn a_copy_answers_as_what_was_read(rt: HostRuntime) -> Result<(), Fail> {
+    for row in ROWS.as_slice() {
+        let scenario = copied(rt.alloc(), row.text)?;
+        lists(&rt, &scenario, row);
+        numbers(&rt, &scenario, row);
+        scripts(&rt, &scenario, row);
+        let printed = print_scenario(rt.alloc(), &scenario)?;
+        assert!(rt; printed.as_slice() == row.text.as_bytes());
+    }
+    Ok(())
+}
+
+/// Two names are found, and a front of one isn't.
+fn finds<R: Abort>(rt: &R, scenario: &Scenario) {
     assert_eq!(rt; scenario.find(b"t0"), Some(0));
     assert_eq!(rt; scenario.find(b"s0"), Some(1));
     assert_eq!(rt; scenario.find(b"s"), None);
+}
+
+#[test]
+fn an_object_is_found_by_its_name(rt: HostRuntime) -> Result<(), Fail> {
+    let text = "zk 1\nthread t0 0 super\nsem s0 0 1\n";
+    finds(&rt, &read(rt.alloc(), text)?);
+    finds(&rt, &copied(rt.alloc(), text)?);
     Ok(())
 }

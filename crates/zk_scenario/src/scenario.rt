@@ -1,4 +1,4 @@
-ghost use Rattle.std.specs.Prelude.{◌≡◌, ℕ, ◌≤◌, ◌++◌, length, slice_get};
+ghost use Rattle.std.specs.Prelude.{◌≡◌, ℕ, ◌≤◌, ◌++◌, IfOk, length, slice_get};
 ghost use Rattle.zk_scenario.specs.Grammar.{IsReadable};
 ghost use Rattle.zk_scenario.specs.Content.{Content};
 ghost use Rattle.zk_line.specs.Objects.{is_thread, is_queue, is_item, is_sem, is_msgq, is_signal, is_chan, is_observer, places, number_of, object_of};
@@ -8,8 +8,9 @@ ghost use Rattle.zk_scenario.specs.Valid.{IsValid};
 
 use crate::Script;
 use crate::scripts::Scripts;
+use std::alloc::Global;
 use std::marker::Model;
-use zk_base::Who;
+use zk_base::{NoMemory, Who};
 use zk_line::{Call, Decl, Declared, Objects};
 
 /// The most steps that a player of any scenario may make.
@@ -176,6 +177,17 @@ impl Scenario {
         Some(Who {
             number: player,
             prio: prio_of(decl),
+        })
+    }
+
+    /// The same scenario, in memory of its own, so that it outlives this one.
+    pub fn copy(&self, alloc: Global) -> Result<Scenario, NoMemory>
+        ensures copy { IfOk result (λ scenario. scenario ≡ self.now) }
+    {
+        Ok(Scenario {
+            objects: self.objects.copy(alloc)?,
+            written: Vec::from_slice(alloc, &self.written)?,
+            scripts: self.scripts.copy(alloc)?,
         })
     }
 }

@@ -1,4 +1,4 @@
-ghost use Rattle.std.specs.Prelude.{◌≡◌, ℕ, ◌+◌, ◌-◌, ◌^◌, ◌<◌, None, [], ◌∷◌, ◌++◌, OnOk, OnErr, IfErr, slice_get, vec_len};
+ghost use Rattle.std.specs.Prelude.{◌≡◌, ℕ, ◌+◌, ◌-◌, ◌^◌, ◌<◌, None, [], ◌∷◌, ◌++◌, OnOk, OnErr, IfOk, IfErr, slice_get, vec_len};
 ghost use Rattle.std.specs.Option.{option_flatten};
 ghost use Rattle.zk_scenario.specs.Players.{calls_of};
 ghost use Rattle.zk_scenario.specs.Scripts.{script_of};
@@ -6,7 +6,7 @@ ghost use Rattle.zk_scenario.specs.Scripts.{script_of};
 use crate::Script;
 use std::alloc::Global;
 use std::marker::Model;
-use zk_base::{NoMemory, make_room_for_one, push_within};
+use zk_base::{Listed, NoMemory, make_room_for_one, push_within};
 use zk_line::Call;
 
 /// The scripts in the written order, with the place of each object's script.
@@ -84,6 +84,16 @@ impl Scripts {
         push_within(&mut self.scripts, script);
         Ok(())
     }
+
+    /// The same scripts, in memory of their own.
+    pub fn copy(&self, alloc: Global) -> Result<Scripts, NoMemory>
+        ensures copy { IfOk result (λ scripts. scripts ≡ self.now) }
+    {
+        Ok(Scripts {
+            scripts: copy_each(alloc, &self.scripts)?,
+            by_owner: Vec::from_slice(alloc, &self.by_owner)?,
+        })
+    }
 }
 
 fn place_under(by_owner: &[Option<usize>], owner: u32) -> Option<usize>
@@ -101,4 +111,24 @@ fn widen(by_owner: &mut Vec<Option<usize>>, owner: u32) -> Result<(), NoMemory>
         by_owner.push(None)?;
     }
     Ok(())
+}
+
+fn copy_each(alloc: Global, scripts: &[Script]) -> Result<Vec<Script>, NoMemory>
+    ensures { IfOk result (λ copied. copied.items ≡ scripts.now) }
+{
+    let mut copied = Vec::with_capacity(alloc, scripts.len())?;
+    for script in scripts {
+        copied.push(copy_one(alloc, script)?)?;
+    }
+    Ok(copied)
+}
+
+fn copy_one(alloc: Global, script: &Script) -> Result<Script, NoMemory>
+    ensures { IfOk result (λ copied. copied ≡ script.now) }
+{
+    let calls = Vec::from_slice(alloc, script.calls.items())?;
+    Ok(Script {
+        owner: script.owner,
+        calls: Listed::from_vec(calls),
+    })
 }
