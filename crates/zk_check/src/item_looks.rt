@@ -17,7 +17,7 @@ use zk_trace::{ItemLook, Trace};
 use zk_work::Work;
 
 /// A look at an item, with its place among all of them.
-#[derive(Clone, Copy, Debug)]
+#[derive(Clone, Copy)]
 pub struct Fronted {
     pub place: usize,
     pub look: ItemLook,

@@ -9,7 +9,7 @@ use zk_base::{Failed, Source};
 const CHUNK: usize = 4096;
 
 /// Why no input was read.
-#[derive(Clone, Copy, Debug)]
+#[derive(Clone, Copy)]
 pub enum NoInput {
     /// The source failed.
     Fault,

@@ -10,7 +10,7 @@ use zk_services::{Counted, service_of};
 use zk_worker::{MOST_ATTEMPTS, Player, Step};
 
 /// A step that a player asked for in vain, and how many entries its service had then.
-#[derive(Clone, Copy, Debug)]
+#[derive(Clone, Copy)]
 pub struct Asked {
     /// The step.
     pub step: Step,
@@ -20,7 +20,7 @@ pub struct Asked {
 
 /// What is kept of a player's last turn. Where it was in vain the next one is too, as long as each service that it asked has
 /// as many entries as it had, or says that asking again is in vain.
-#[derive(Debug, Drop)]
+#[derive(Drop)]
 pub struct LastTurn {
     /// Whether its last turn was in vain.
     pub waits: bool,

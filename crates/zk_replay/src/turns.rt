@@ -19,7 +19,7 @@ use zk_services::Counted;
 use zk_worker::{Player, Services, Stepped};
 
 /// What a turn did.
-#[derive(Clone, Copy, Debug)]
+#[derive(Clone, Copy)]
 pub struct Turn {
     /// The player made a step.
     pub moved: bool,
@@ -28,7 +28,7 @@ pub struct Turn {
 }
 
 /// How the run goes on after a round.
-#[derive(Clone, Copy, Debug)]
+#[derive(Clone, Copy)]
 pub enum RoundEnd {
     /// No player made a step.
     Still,

@@ -13,14 +13,14 @@ pub fn put_kept(alloc: Global, out: &mut Vec<u8>, text: &[u8]) -> Result<(), NoM
     };
     let first = line_behind(front);
     if let Ok(trace) = read_trace(alloc, &scenario, behind, first) {
-        put(out, kept(alloc, &trace)?.as_bytes())?;
+        put(out, lines_of(alloc, &trace)?.as_bytes())?;
     }
     put_came(out, read_again(alloc, &scenario, behind, first)?)?;
     put(out, b"\n")
 }
 
 /// A line for each entry, look and answer.
-fn kept(alloc: Global, trace: &Trace) -> Result<String, NoMemory> {
+fn lines_of(alloc: Global, trace: &Trace) -> Result<String, NoMemory> {
     let mut text = String::new(alloc);
     put_entries(&mut text, trace.work.items())?;
     put_all(&mut text, trace.item_looks.items())?;

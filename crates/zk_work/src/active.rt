@@ -8,7 +8,7 @@ use zk_model_work::{BusyFlags, Queue};
 use zk_queue::Queues;
 
 /// What a submission asks of its item.
-#[derive(Clone, Copy, Debug)]
+#[derive(Clone, Copy)]
 pub struct Busy {
     /// A queue runs it.
     pub runs: bool,
