@@ -35,7 +35,7 @@ use Rattle.zk_worker.specs.declared.steps.Step.TheVariants as steps
 use Rattle.zk_worker.specs.declared.steps.StepReply.TheVariants as step_replies
 use Rattle.zk_worker.specs.Looks.{look, look_at, looks_at, found_by}
 use Rattle.zk_worker.specs.Machines.{item_of}
-use Rattle.zk_worker.specs.Attempt.{IsMade, takes}
+use Rattle.zk_worker.specs.Attempt.{IsMade, is_in_range}
 use Rattle.zk_worker.proofs.Looking.{reads-whole}
 use Rattle.zk_kernel.specs.declared.cells.Cells.{Cells}
 use Rattle.zk_kernel.specs.declared.passes.Passes.{Passes}
@@ -114,7 +114,7 @@ flags-told start h item word o is taken told =
 
 -- a look at an item, under a turn
 pub looked-item : (k : Cells) (p : Passes) (who : Who) (number object item word at : ℕ) (step : Step) (seat : Option (Pass Work WorkOp WorkReply State)) → OthersGrew who.number (seen_at p.work) (seen_at seat) →
-    item_of (cells_machines k) object ≡ Some item → takes (cells_machines k) (steps.LookItem object) ≡ true →
+    item_of (cells_machines k) object ≡ Some item → is_in_range (cells_machines k) (steps.LookItem object) ≡ true →
     word ≡ work_word (state_after work_machine (work_start (given_to k.work)) (seen_at seat)) item → at ≡ length (seen_at seat) → step ≡ steps.LookItem object →
     IsMade false (cells_machines k) who number step (step_replies.Flags word at) (desk_shown p) (desk_shown (record p { work = seat }))
 looked-item k p who number object item word at step seat grew is taken told end asked =

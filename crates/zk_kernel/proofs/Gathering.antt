@@ -1,12 +1,12 @@
 -- The passes of callers put together.
 use Rattle.std.proofs.Common.{◌≡◌, ◌≢◌, ◌⊎◌, inl, inr, ⊎_elim, ℕ, ◌+◌, Bool, true, false, ◌||◌, Some, None, Option, List, [], ◌∷◌, ◌++◌, length, All, refl, sym, ap, subst, ◌∙◌, arith, eqb}
 use Rattle.std.proofs.lemmas.Bool.{eq-eqb}
-use Rattle.std.proofs.lemmas.List.{length-append}
-use Rattle.std.proofs.lemmas.List.Elements.{All-nil, All-cons, All-append, All-weaker, All-pop}
-use Rattle.std.specs.Prelude.{IfSome, option_to_list}
+use Rattle.std.proofs.lemmas.List.{map_push}
+use Rattle.std.proofs.lemmas.List.Elements.{All-nil, All-cons, All-append, All-weaker}
 use Rattle.zk_scenario.specs.Content.{Content}
-use Rattle.zk_kernel.specs.declared.caller.Caller.{Caller}
-use Rattle.zk_kernel.specs.Callers.{IsCaller, IsLogged}
+use Rattle.zk_world.specs.SoundPlayer.{IsSoundPlayer}
+use Rattle.zk_world.proofs.Players.{player-still}
+use Rattle.zk_kernel.specs.Callers.{IsPlaying}
 use Rattle.zk_base.specs.declared.ids.Who.{Who}
 use Rattle.zk_base.specs.declared.ids.Entry.{Entry}
 use Rattle.zk_turn.specs.declared.pass.Pass.{Pass}
@@ -17,16 +17,14 @@ use Rattle.zk_worker.specs.Single.{OthersGrew}
 use Rattle.zk_worker.specs.Families.{EachGrew}
 use Rattle.zk_worker.specs.Shown.{Shown, AllGrew}
 use Rattle.std.specs.List.{AllZip}
-use Rattle.zk_worker.proofs.Between.{log-still, looks-none, stands-longer}
-use Rattle.zk_worker.proofs.Looking.{looks-still}
-use Rattle.zk_worker.proofs.Following.{following-still}
+use Rattle.zk_worker.proofs.Between.{looks-none}
 use Rattle.zk_worker.specs.Looks.{LooksGrew}
 use Rattle.zk_kernel.specs.declared.cells.Cells.{Cells}
 use Rattle.zk_kernel.specs.declared.passes.Passes.{Passes}
 use Rattle.zk_kernel.specs.Seats.{IsAt}
-use Rattle.zk_kernel.specs.Desks.{IsServed, cells_machines}
+use Rattle.zk_kernel.specs.Desks.{IsServed, desk_shown}
 use Rattle.zk_kernel.specs.Rows.{IsSeat, AreSeats}
-use Rattle.zk_kernel.specs.Joined.{StandsFor, StandsIn, AllStand, EachGoesOn, AreFor, AllGoOn, IsKept}
+use Rattle.zk_kernel.specs.Joined.{StandsFor, StandsIn, AllStand, EachGoesOn, AreFor, AllGoOn, whos, IsKept, AreGathered}
 
 has_left : (ws us : List Who) (n : ℕ) → has ws n ≡ true → has (ws ++ us) n ≡ true
 has_left [] us n is = absurd (cc)
@@ -77,21 +75,14 @@ all_grew ws n old new among goes = record {
 }
 
 -- what holds of a player and its log stays so as others' entries come
-logged_still : (k : Cells) (s : Content) (ws : List Who) (old new : Shown) (at : PlayerPlace) → has ws at.who.number ≡ true → AllGoOn ws old new → IsLogged k s old at → IsLogged k s new at
-logged_still k s ws old new at among goes logged =
-    let grew = all_grew ws at.who.number old new among goes in
-    record {
-      log = log-still false at.who.number at.spots old new logged.log grew;
-      looks = looks-still false (cells_machines k) (cells_machines k) at.who.number at.spots old new refl logged.looks grew;
-      follows = following-still s at.who.number old new at (stands-longer at.who.number old new grew) logged.follows;
-      fits = logged.fits;
-    }
+sound-still : (s : Content) (ws : List Who) (old new : Shown) (at : PlayerPlace) → has ws at.who.number ≡ true → AllGoOn ws old new → IsSoundPlayer s old at → IsSoundPlayer s new at
+sound-still s ws old new at among goes sound = player-still false s at old new (all_grew ws at.who.number old new among goes) sound
 
-pub still_kept : (k : Cells) (s : Content) (ws us : List Who) (old new : Shown) → AllGoOn ws old new → (at : PlayerPlace) → IsKept k s ws old at → IsKept k s (ws ++ us) new at
-still_kept k s ws us old new goes at kept = record { among = has_left ws us at.who.number kept.among; logged = logged_still k s ws old new at kept.among goes kept.logged }
+still_kept : (s : Content) (ws us : List Who) (old new : Shown) → AllGoOn ws old new → (at : PlayerPlace) → IsKept s ws old at → IsKept s (ws ++ us) new at
+still_kept s ws us old new goes at kept = record { among = has_left ws us at.who.number kept.among; sound = sound-still s ws old new at kept.among goes kept.sound }
 
-pub newly_kept : (k : Cells) (s : Content) (ws us : List Who) (old new : Shown) → AllGoOn us old new → (at : PlayerPlace) → has us at.who.number ≡ true → IsLogged k s old at → IsKept k s (ws ++ us) new at
-newly_kept k s ws us old new goes at among logged = record { among = has_right ws us at.who.number among; logged = logged_still k s us old new at among goes logged }
+newly_kept : (s : Content) (ws us : List Who) (old new : Shown) → AllGoOn us old new → (at : PlayerPlace) → has us at.who.number ≡ true → IsSoundPlayer s old at → IsKept s (ws ++ us) new at
+newly_kept s ws us old new goes at among sound = record { among = has_right ws us at.who.number among; sound = sound-still s us old new at among goes sound }
 
 module _ {S O R T : Type 0} (legal : T → List (Entry O R) → Type 0) (start : S → T) (who : Who) where
   own_stands : (c : Cell S O R T) (o : Option (Pass S O R T)) → IsAt legal start c who o → StandsFor legal start (who ∷ []) c o
@@ -106,38 +97,40 @@ module _ {S O R T : Type 0} (legal : T → List (Entry O R) → Type 0) (start :
   own_stand (None ∷ cs) (Some p ∷ ps) all = absurd all.0
   own_stand (Some c ∷ cs) (p ∷ ps) all = (own_stands c p all.0, own_stand cs ps all.1)
 
-pub served_for : (k : Cells) (p : Passes) (who : Who) → IsServed k p who → AreFor k (who ∷ []) p
-served_for k p who is = record {
-  work = own_stands _ _ who k.work p.work is.work;
-  clock = own_stands _ _ who k.clock p.clock is.clock;
-  table = own_stands _ _ who k.table p.table is.table;
-  sems = own_stand _ _ who k.sems.items p.sems.items is.sems;
-  msgqs = own_stand _ _ who k.msgqs.items p.msgqs.items is.msgqs;
-  signals = own_stand _ _ who k.signals.items p.signals.items is.signals;
-  chans = own_stand _ _ who k.chans.items p.chans.items is.chans;
-  observers = own_stand _ _ who k.observers.items p.observers.items is.observers;
+pub served_for : (c : Cells) (p : Passes) (who : Who) → IsServed c p who → AreFor c (who ∷ []) p
+served_for c p who is = record {
+  work = own_stands _ _ who c.work p.work is.work;
+  clock = own_stands _ _ who c.clock p.clock is.clock;
+  table = own_stands _ _ who c.table p.table is.table;
+  sems = own_stand _ _ who c.sems.items p.sems.items is.sems;
+  msgqs = own_stand _ _ who c.msgqs.items p.msgqs.items is.msgqs;
+  signals = own_stand _ _ who c.signals.items p.signals.items is.signals;
+  chans = own_stand _ _ who c.chans.items p.chans.items is.chans;
+  observers = own_stand _ _ who c.observers.items p.observers.items is.observers;
 }
 
+-- the passes of the first caller
+pub first_together : (c : Cells) (s : Content) (p : Passes) (at : PlayerPlace) → IsPlaying c s at p → AreGathered c s (at ∷ []) p
+first_together c s p at playing =
+    let Q : PlayerPlace → Type 0 = IsKept s (at.who ∷ []) (desk_shown p) in
+    record {
+      stand = served_for c p at.who playing.served;
+      kept = All-cons Q at [] (record { among = has_self at.who; sound = playing.sound }) (All-nil Q);
+    }
+
 -- one caller more
-pub one_more : (k : Cells) (s : Content) (ws us : List Who) (shown own new : Shown) (players players' : List PlayerPlace) (at : PlayerPlace) → AllGoOn ws shown new → AllGoOn us own new → has us at.who.number ≡ true → IsLogged k s own at →
-    All (IsKept k s ws shown) players → players' ≡ players ++ at ∷ [] → All (IsKept k s (ws ++ us) new) players'
-one_more k s ws us shown own new players players' at goes goes' among log kept is =
-    let P : PlayerPlace → Type 0 = IsKept k s ws shown in
-    let Q : PlayerPlace → Type 0 = IsKept k s (ws ++ us) new in
-    subst (All Q) (sym is) (All-append Q players (at ∷ []) (All-weaker P Q (still_kept k s ws us shown new goes) players kept) (All-cons Q at [] (newly_kept k s ws us own new goes' at among log) (All-nil Q)))
-
--- the first caller's log
-pub first_kept : (k : Cells) (s : Content) (shown : Shown) (players : List PlayerPlace) (at : PlayerPlace) → IsLogged k s shown at → players ≡ at ∷ [] → All (IsKept k s (at.who ∷ []) shown) players
-first_kept k s shown players at log is =
-    let Q : PlayerPlace → Type 0 = IsKept k s (at.who ∷ []) shown in
-    subst (All Q) (sym is) (All-cons Q at [] (record { among = has_self at.who; logged = log }) (All-nil Q))
-
--- a caller is taken from the end
-pub popped : (k : Cells) (s : Content) (xs ys : List Caller) (r : Option Caller) (c : Caller) → xs ≡ ys ++ option_to_list r → r ≡ Some c → All (IsCaller k s) xs → All (IsCaller k s) ys × IsCaller k s c
-popped k s xs ys r c items is all =
-    let P : Caller → Type 0 = IsCaller k s in
-    let both = All-pop P xs ys r items all in
-    (both.0, subst (λ (o : Option Caller). IfSome o P) is both.1)
-
-pub one_fewer : {A : Type 0} (xs ys : List A) (r : Option A) (c : A) → xs ≡ ys ++ option_to_list r → r ≡ Some c → length xs ≡ length ys + 1
-one_fewer {A} xs ys r c items is = ap (λ (l : List A). length l) items ∙ ap (λ (o : Option A). length (ys ++ option_to_list o)) is ∙ length-append ys (c ∷ [])
+pub more_together : (c : Cells) (s : Content) (into other now : Passes) (players : List PlayerPlace) (at : PlayerPlace) → AreGathered c s players into → IsPlaying c s at other →
+    AreFor c (whos players ++ at.who ∷ []) now → AllGoOn (whos players) (desk_shown into) (desk_shown now) → AllGoOn (at.who ∷ []) (desk_shown other) (desk_shown now) →
+    AreGathered c s (players ++ at ∷ []) now
+more_together c s into other now players at gathered playing stand goes goes' =
+    let ws = whos players in
+    let us : List Who = at.who ∷ [] in
+    let P : PlayerPlace → Type 0 = IsKept s ws (desk_shown into) in
+    let Q : PlayerPlace → Type 0 = IsKept s (ws ++ us) (desk_shown now) in
+    let as : whos (players ++ at ∷ []) ≡ ws ++ us = map_push (λ (a : PlayerPlace). a.who) players at in
+    let kept : All Q (players ++ at ∷ []) = All-append Q players (at ∷ []) (All-weaker P Q (still_kept s ws us (desk_shown into) (desk_shown now) goes) players gathered.kept)
+        (All-cons Q at [] (newly_kept s ws us (desk_shown other) (desk_shown now) goes' at (has_self at.who) playing.sound) (All-nil Q)) in
+    record {
+      stand = subst (λ (l : List Who). AreFor c l now) (sym as) stand;
+      kept = subst (λ (l : List Who). All (IsKept s l (desk_shown now)) (players ++ at ∷ [])) (sym as) kept;
+    }

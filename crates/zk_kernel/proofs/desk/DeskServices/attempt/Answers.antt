@@ -42,12 +42,12 @@ visit-requires-clause-later g c = above-work (desk_shown c.args.self.now.passes)
 pub returns-in_err-made-in-Work-clause-attempted : goal.returns-in_err-made-in-Work-clause-attempted
 returns-in_err-made-in-Work-clause-attempted g c =
     let p = c.args.self.now.passes in
-    when-err (cells_machines c.args.self.now.kernel.now) c.args.who c.args.number c.args.step.now (desk_shown p) (desk_shown (record p { work = c.visit.new.seat })) c.from_residual.result c.from_residual.ensures.0
+    when-err (cells_machines c.args.self.now.cells.now) c.args.who c.args.number c.args.step.now (desk_shown p) (desk_shown (record p { work = c.visit.new.seat })) c.from_residual.result c.from_residual.ensures.0
     (grows-work c.args.who.number (desk_shown p) (seen_at c.visit.new.seat) c.in_err-made-in-Work.ensures.visited)
 
 pub returns-in_ok-made-in-Work-clause-attempted : goal.returns-in_ok-made-in-Work-clause-attempted
 returns-in_ok-made-in-Work-clause-attempted g c =
-    let k = c.args.self.now.kernel.now in
+    let k = c.args.self.now.cells.now in
     let old = desk_shown c.args.self.now.passes in
     let made = c.in_ok-made-in-Work in
     let told : option_map (λ (m : WorkReply × ℕ). step_replies.Work m.0 m.1) made.made ≡ c.map.result = search rules in
@@ -61,12 +61,12 @@ visit-requires-in-Clock-clause-later g c = above-clock (desk_shown c.args.self.n
 pub returns-in_err-made-in-Clock-clause-attempted : goal.returns-in_err-made-in-Clock-clause-attempted
 returns-in_err-made-in-Clock-clause-attempted g c =
     let p = c.args.self.now.passes in
-    when-err (cells_machines c.args.self.now.kernel.now) c.args.who c.args.number c.args.step.now (desk_shown p) (desk_shown (record p { clock = c.visit-in-Clock.new.seat })) c.from_residual-in_err-made-in-Clock.result c.from_residual-in_err-made-in-Clock.ensures.0
+    when-err (cells_machines c.args.self.now.cells.now) c.args.who c.args.number c.args.step.now (desk_shown p) (desk_shown (record p { clock = c.visit-in-Clock.new.seat })) c.from_residual-in_err-made-in-Clock.result c.from_residual-in_err-made-in-Clock.ensures.0
     (grows-clock c.args.who.number (desk_shown p) (seen_at c.visit-in-Clock.new.seat) c.in_err-made-in-Clock.ensures.visited)
 
 pub returns-in_ok-made-in-Clock-clause-attempted : goal.returns-in_ok-made-in-Clock-clause-attempted
 returns-in_ok-made-in-Clock-clause-attempted g c =
-    let k = c.args.self.now.kernel.now in
+    let k = c.args.self.now.cells.now in
     let old = desk_shown c.args.self.now.passes in
     let made = c.in_ok-made-in-Clock in
     let told : option_map (λ (m : ClockReply × ℕ). step_replies.Clock m.0 m.1) made.made ≡ c.map-in-Clock.result = search rules in
@@ -80,12 +80,12 @@ visit-requires-in-Table-clause-later g c = above-table (desk_shown c.args.self.n
 pub returns-in_err-made-in-Table-clause-attempted : goal.returns-in_err-made-in-Table-clause-attempted
 returns-in_err-made-in-Table-clause-attempted g c =
     let p = c.args.self.now.passes in
-    when-err (cells_machines c.args.self.now.kernel.now) c.args.who c.args.number c.args.step.now (desk_shown p) (desk_shown (record p { table = c.visit-in-Table.new.seat })) c.from_residual-in_err-made-in-Table.result c.from_residual-in_err-made-in-Table.ensures.0
+    when-err (cells_machines c.args.self.now.cells.now) c.args.who c.args.number c.args.step.now (desk_shown p) (desk_shown (record p { table = c.visit-in-Table.new.seat })) c.from_residual-in_err-made-in-Table.result c.from_residual-in_err-made-in-Table.ensures.0
     (grows-table c.args.who.number (desk_shown p) (seen_at c.visit-in-Table.new.seat) c.in_err-made-in-Table.ensures.visited)
 
 pub returns-in_ok-made-in-Table-clause-attempted : goal.returns-in_ok-made-in-Table-clause-attempted
 returns-in_ok-made-in-Table-clause-attempted g c =
-    let k = c.args.self.now.kernel.now in
+    let k = c.args.self.now.cells.now in
     let old = desk_shown c.args.self.now.passes in
     let made = c.in_ok-made-in-Table in
     let told : option_map (λ (m : TableReply × ℕ). step_replies.Table m.0 m.1) made.made ≡ c.map-in-Table.result = search rules in
@@ -100,18 +100,18 @@ visit_at-requires-clause-later g c = λ h there.
 pub returns-in_err-made-in-Sem-clause-attempted : goal.returns-in_err-made-in-Sem-clause-attempted
 returns-in_err-made-in-Sem-clause-attempted g c =
     let p = c.args.self.now.passes in
-    when-err (cells_machines c.args.self.now.kernel.now) c.args.who c.args.number c.args.step.now (desk_shown p) (desk_shown (record p { sems = c.visit_at.new.seats })) c.from_residual-in_err-made-in-Sem.result c.from_residual-in_err-made-in-Sem.ensures.0
+    when-err (cells_machines c.args.self.now.cells.now) c.args.who c.args.number c.args.step.now (desk_shown p) (desk_shown (record p { sems = c.visit_at.new.seats })) c.from_residual-in_err-made-in-Sem.result c.from_residual-in_err-made-in-Sem.ensures.0
     (grows-sems c.args.who.number (desk_shown p) (seen_all c.visit_at.new.seats.items) c.in_err-made-in-Sem.ensures.visited)
 
 pub returns-in_err-made-in-Sem-clause-serves : goal.returns-in_err-made-in-Sem-clause-serves
 returns-in_err-made-in-Sem-clause-serves g c =
     let p = c.args.self.now.passes in
-    same-players c.args.self.now.kernel.now p (record p { sems = c.visit_at.new.seats }) c.args.who c.requires.served
+    same-players c.args.self.now.cells.now p (record p { sems = c.visit_at.new.seats }) c.args.who c.requires.served
     (record { work = c.requires.served.work; clock = c.requires.served.clock; table = c.requires.served.table; sems = subst (λ cs. AreSeats (IsLegal sem_machine) sem_start c.args.who cs c.visit_at.new.seats.items) c.deref.ensures.value c.visit_at.ensures.seats; msgqs = c.requires.served.msgqs; signals = c.requires.served.signals; chans = c.requires.served.chans; observers = c.requires.served.observers; })
 
 pub returns-in_ok-made-in-Sem-clause-attempted : goal.returns-in_ok-made-in-Sem-clause-attempted
 returns-in_ok-made-in-Sem-clause-attempted g c =
-    let k = c.args.self.now.kernel.now in
+    let k = c.args.self.now.cells.now in
     let old = desk_shown c.args.self.now.passes in
     let object = c.in-Sem.object in
     let made = c.in_ok-made-in-Sem in
@@ -123,7 +123,7 @@ returns-in_ok-made-in-Sem-clause-attempted g c =
 pub returns-in_ok-made-in-Sem-clause-serves : goal.returns-in_ok-made-in-Sem-clause-serves
 returns-in_ok-made-in-Sem-clause-serves g c =
     let p = c.args.self.now.passes in
-    same-players c.args.self.now.kernel.now p (record p { sems = c.visit_at.new.seats }) c.args.who c.requires.served
+    same-players c.args.self.now.cells.now p (record p { sems = c.visit_at.new.seats }) c.args.who c.requires.served
     (record { work = c.requires.served.work; clock = c.requires.served.clock; table = c.requires.served.table; sems = subst (λ cs. AreSeats (IsLegal sem_machine) sem_start c.args.who cs c.visit_at.new.seats.items) c.deref.ensures.value c.visit_at.ensures.seats; msgqs = c.requires.served.msgqs; signals = c.requires.served.signals; chans = c.requires.served.chans; observers = c.requires.served.observers; })
 
 pub visit_at-requires-in-Msgq-clause-later : goal.visit_at-requires-in-Msgq-clause-later
@@ -133,18 +133,18 @@ visit_at-requires-in-Msgq-clause-later g c = λ h there.
 pub returns-in_err-made-in-Msgq-clause-attempted : goal.returns-in_err-made-in-Msgq-clause-attempted
 returns-in_err-made-in-Msgq-clause-attempted g c =
     let p = c.args.self.now.passes in
-    when-err (cells_machines c.args.self.now.kernel.now) c.args.who c.args.number c.args.step.now (desk_shown p) (desk_shown (record p { msgqs = c.visit_at-in-Msgq.new.seats })) c.from_residual-in_err-made-in-Msgq.result c.from_residual-in_err-made-in-Msgq.ensures.0
+    when-err (cells_machines c.args.self.now.cells.now) c.args.who c.args.number c.args.step.now (desk_shown p) (desk_shown (record p { msgqs = c.visit_at-in-Msgq.new.seats })) c.from_residual-in_err-made-in-Msgq.result c.from_residual-in_err-made-in-Msgq.ensures.0
     (grows-msgqs c.args.who.number (desk_shown p) (seen_all c.visit_at-in-Msgq.new.seats.items) c.in_err-made-in-Msgq.ensures.visited)
 
 pub returns-in_err-made-in-Msgq-clause-serves : goal.returns-in_err-made-in-Msgq-clause-serves
 returns-in_err-made-in-Msgq-clause-serves g c =
     let p = c.args.self.now.passes in
-    same-players c.args.self.now.kernel.now p (record p { msgqs = c.visit_at-in-Msgq.new.seats }) c.args.who c.requires.served
+    same-players c.args.self.now.cells.now p (record p { msgqs = c.visit_at-in-Msgq.new.seats }) c.args.who c.requires.served
     (record { work = c.requires.served.work; clock = c.requires.served.clock; table = c.requires.served.table; sems = c.requires.served.sems; msgqs = subst (λ cs. AreSeats (IsLegal msgq_machine) msgq_start c.args.who cs c.visit_at-in-Msgq.new.seats.items) c.deref-in-Msgq.ensures.value c.visit_at-in-Msgq.ensures.seats; signals = c.requires.served.signals; chans = c.requires.served.chans; observers = c.requires.served.observers; })
 
 pub returns-in_ok-made-in-Msgq-clause-attempted : goal.returns-in_ok-made-in-Msgq-clause-attempted
 returns-in_ok-made-in-Msgq-clause-attempted g c =
-    let k = c.args.self.now.kernel.now in
+    let k = c.args.self.now.cells.now in
     let old = desk_shown c.args.self.now.passes in
     let object = c.in-Msgq.object in
     let made = c.in_ok-made-in-Msgq in
@@ -156,7 +156,7 @@ returns-in_ok-made-in-Msgq-clause-attempted g c =
 pub returns-in_ok-made-in-Msgq-clause-serves : goal.returns-in_ok-made-in-Msgq-clause-serves
 returns-in_ok-made-in-Msgq-clause-serves g c =
     let p = c.args.self.now.passes in
-    same-players c.args.self.now.kernel.now p (record p { msgqs = c.visit_at-in-Msgq.new.seats }) c.args.who c.requires.served
+    same-players c.args.self.now.cells.now p (record p { msgqs = c.visit_at-in-Msgq.new.seats }) c.args.who c.requires.served
     (record { work = c.requires.served.work; clock = c.requires.served.clock; table = c.requires.served.table; sems = c.requires.served.sems; msgqs = subst (λ cs. AreSeats (IsLegal msgq_machine) msgq_start c.args.who cs c.visit_at-in-Msgq.new.seats.items) c.deref-in-Msgq.ensures.value c.visit_at-in-Msgq.ensures.seats; signals = c.requires.served.signals; chans = c.requires.served.chans; observers = c.requires.served.observers; })
 
 pub visit_at-requires-in-Signal-clause-later : goal.visit_at-requires-in-Signal-clause-later
@@ -166,18 +166,18 @@ visit_at-requires-in-Signal-clause-later g c = λ h there.
 pub returns-in_err-made-in-Signal-clause-attempted : goal.returns-in_err-made-in-Signal-clause-attempted
 returns-in_err-made-in-Signal-clause-attempted g c =
     let p = c.args.self.now.passes in
-    when-err (cells_machines c.args.self.now.kernel.now) c.args.who c.args.number c.args.step.now (desk_shown p) (desk_shown (record p { signals = c.visit_at-in-Signal.new.seats })) c.from_residual-in_err-made-in-Signal.result c.from_residual-in_err-made-in-Signal.ensures.0
+    when-err (cells_machines c.args.self.now.cells.now) c.args.who c.args.number c.args.step.now (desk_shown p) (desk_shown (record p { signals = c.visit_at-in-Signal.new.seats })) c.from_residual-in_err-made-in-Signal.result c.from_residual-in_err-made-in-Signal.ensures.0
     (grows-signals c.args.who.number (desk_shown p) (seen_all c.visit_at-in-Signal.new.seats.items) c.in_err-made-in-Signal.ensures.visited)
 
 pub returns-in_err-made-in-Signal-clause-serves : goal.returns-in_err-made-in-Signal-clause-serves
 returns-in_err-made-in-Signal-clause-serves g c =
     let p = c.args.self.now.passes in
-    same-players c.args.self.now.kernel.now p (record p { signals = c.visit_at-in-Signal.new.seats }) c.args.who c.requires.served
+    same-players c.args.self.now.cells.now p (record p { signals = c.visit_at-in-Signal.new.seats }) c.args.who c.requires.served
     (record { work = c.requires.served.work; clock = c.requires.served.clock; table = c.requires.served.table; sems = c.requires.served.sems; msgqs = c.requires.served.msgqs; signals = subst (λ cs. AreSeats (IsLegal signal_machine) signal_start c.args.who cs c.visit_at-in-Signal.new.seats.items) c.deref-in-Signal.ensures.value c.visit_at-in-Signal.ensures.seats; chans = c.requires.served.chans; observers = c.requires.served.observers; })
 
 pub returns-in_ok-made-in-Signal-clause-attempted : goal.returns-in_ok-made-in-Signal-clause-attempted
 returns-in_ok-made-in-Signal-clause-attempted g c =
-    let k = c.args.self.now.kernel.now in
+    let k = c.args.self.now.cells.now in
     let old = desk_shown c.args.self.now.passes in
     let object = c.in-Signal.object in
     let made = c.in_ok-made-in-Signal in
@@ -189,7 +189,7 @@ returns-in_ok-made-in-Signal-clause-attempted g c =
 pub returns-in_ok-made-in-Signal-clause-serves : goal.returns-in_ok-made-in-Signal-clause-serves
 returns-in_ok-made-in-Signal-clause-serves g c =
     let p = c.args.self.now.passes in
-    same-players c.args.self.now.kernel.now p (record p { signals = c.visit_at-in-Signal.new.seats }) c.args.who c.requires.served
+    same-players c.args.self.now.cells.now p (record p { signals = c.visit_at-in-Signal.new.seats }) c.args.who c.requires.served
     (record { work = c.requires.served.work; clock = c.requires.served.clock; table = c.requires.served.table; sems = c.requires.served.sems; msgqs = c.requires.served.msgqs; signals = subst (λ cs. AreSeats (IsLegal signal_machine) signal_start c.args.who cs c.visit_at-in-Signal.new.seats.items) c.deref-in-Signal.ensures.value c.visit_at-in-Signal.ensures.seats; chans = c.requires.served.chans; observers = c.requires.served.observers; })
 
 pub visit_at-requires-in-Chan-clause-later : goal.visit_at-requires-in-Chan-clause-later
@@ -199,18 +199,18 @@ visit_at-requires-in-Chan-clause-later g c = λ h there.
 pub returns-in_err-made-in-Chan-clause-attempted : goal.returns-in_err-made-in-Chan-clause-attempted
 returns-in_err-made-in-Chan-clause-attempted g c =
     let p = c.args.self.now.passes in
-    when-err (cells_machines c.args.self.now.kernel.now) c.args.who c.args.number c.args.step.now (desk_shown p) (desk_shown (record p { chans = c.visit_at-in-Chan.new.seats })) c.from_residual-in_err-made-in-Chan.result c.from_residual-in_err-made-in-Chan.ensures.0
+    when-err (cells_machines c.args.self.now.cells.now) c.args.who c.args.number c.args.step.now (desk_shown p) (desk_shown (record p { chans = c.visit_at-in-Chan.new.seats })) c.from_residual-in_err-made-in-Chan.result c.from_residual-in_err-made-in-Chan.ensures.0
     (grows-chans c.args.who.number (desk_shown p) (seen_all c.visit_at-in-Chan.new.seats.items) c.in_err-made-in-Chan.ensures.visited)
 
 pub returns-in_err-made-in-Chan-clause-serves : goal.returns-in_err-made-in-Chan-clause-serves
 returns-in_err-made-in-Chan-clause-serves g c =
     let p = c.args.self.now.passes in
-    same-players c.args.self.now.kernel.now p (record p { chans = c.visit_at-in-Chan.new.seats }) c.args.who c.requires.served
+    same-players c.args.self.now.cells.now p (record p { chans = c.visit_at-in-Chan.new.seats }) c.args.who c.requires.served
     (record { work = c.requires.served.work; clock = c.requires.served.clock; table = c.requires.served.table; sems = c.requires.served.sems; msgqs = c.requires.served.msgqs; signals = c.requires.served.signals; chans = subst (λ cs. AreSeats (IsLegal chan_machine) chan_start c.args.who cs c.visit_at-in-Chan.new.seats.items) c.deref-in-Chan.ensures.value c.visit_at-in-Chan.ensures.seats; observers = c.requires.served.observers; })
 
 pub returns-in_ok-made-in-Chan-clause-attempted : goal.returns-in_ok-made-in-Chan-clause-attempted
 returns-in_ok-made-in-Chan-clause-attempted g c =
-    let k = c.args.self.now.kernel.now in
+    let k = c.args.self.now.cells.now in
     let old = desk_shown c.args.self.now.passes in
     let object = c.in-Chan.object in
     let made = c.in_ok-made-in-Chan in
@@ -222,7 +222,7 @@ returns-in_ok-made-in-Chan-clause-attempted g c =
 pub returns-in_ok-made-in-Chan-clause-serves : goal.returns-in_ok-made-in-Chan-clause-serves
 returns-in_ok-made-in-Chan-clause-serves g c =
     let p = c.args.self.now.passes in
-    same-players c.args.self.now.kernel.now p (record p { chans = c.visit_at-in-Chan.new.seats }) c.args.who c.requires.served
+    same-players c.args.self.now.cells.now p (record p { chans = c.visit_at-in-Chan.new.seats }) c.args.who c.requires.served
     (record { work = c.requires.served.work; clock = c.requires.served.clock; table = c.requires.served.table; sems = c.requires.served.sems; msgqs = c.requires.served.msgqs; signals = c.requires.served.signals; chans = subst (λ cs. AreSeats (IsLegal chan_machine) chan_start c.args.who cs c.visit_at-in-Chan.new.seats.items) c.deref-in-Chan.ensures.value c.visit_at-in-Chan.ensures.seats; observers = c.requires.served.observers; })
 
 pub visit_at-requires-in-Obs-clause-later : goal.visit_at-requires-in-Obs-clause-later
@@ -232,18 +232,18 @@ visit_at-requires-in-Obs-clause-later g c = λ h there.
 pub returns-in_err-made-in-Obs-clause-attempted : goal.returns-in_err-made-in-Obs-clause-attempted
 returns-in_err-made-in-Obs-clause-attempted g c =
     let p = c.args.self.now.passes in
-    when-err (cells_machines c.args.self.now.kernel.now) c.args.who c.args.number c.args.step.now (desk_shown p) (desk_shown (record p { observers = c.visit_at-in-Obs.new.seats })) c.from_residual-in_err-made-in-Obs.result c.from_residual-in_err-made-in-Obs.ensures.0
+    when-err (cells_machines c.args.self.now.cells.now) c.args.who c.args.number c.args.step.now (desk_shown p) (desk_shown (record p { observers = c.visit_at-in-Obs.new.seats })) c.from_residual-in_err-made-in-Obs.result c.from_residual-in_err-made-in-Obs.ensures.0
     (grows-observers c.args.who.number (desk_shown p) (seen_all c.visit_at-in-Obs.new.seats.items) c.in_err-made-in-Obs.ensures.visited)
 
 pub returns-in_err-made-in-Obs-clause-serves : goal.returns-in_err-made-in-Obs-clause-serves
 returns-in_err-made-in-Obs-clause-serves g c =
     let p = c.args.self.now.passes in
-    same-players c.args.self.now.kernel.now p (record p { observers = c.visit_at-in-Obs.new.seats }) c.args.who c.requires.served
+    same-players c.args.self.now.cells.now p (record p { observers = c.visit_at-in-Obs.new.seats }) c.args.who c.requires.served
     (record { work = c.requires.served.work; clock = c.requires.served.clock; table = c.requires.served.table; sems = c.requires.served.sems; msgqs = c.requires.served.msgqs; signals = c.requires.served.signals; chans = c.requires.served.chans; observers = subst (λ cs. AreSeats (IsLegal obs_machine) obs_start c.args.who cs c.visit_at-in-Obs.new.seats.items) c.deref-in-Obs.ensures.value c.visit_at-in-Obs.ensures.seats; })
 
 pub returns-in_ok-made-in-Obs-clause-attempted : goal.returns-in_ok-made-in-Obs-clause-attempted
 returns-in_ok-made-in-Obs-clause-attempted g c =
-    let k = c.args.self.now.kernel.now in
+    let k = c.args.self.now.cells.now in
     let old = desk_shown c.args.self.now.passes in
     let object = c.in-Obs.object in
     let made = c.in_ok-made-in-Obs in
@@ -255,7 +255,7 @@ returns-in_ok-made-in-Obs-clause-attempted g c =
 pub returns-in_ok-made-in-Obs-clause-serves : goal.returns-in_ok-made-in-Obs-clause-serves
 returns-in_ok-made-in-Obs-clause-serves g c =
     let p = c.args.self.now.passes in
-    same-players c.args.self.now.kernel.now p (record p { observers = c.visit_at-in-Obs.new.seats }) c.args.who c.requires.served
+    same-players c.args.self.now.cells.now p (record p { observers = c.visit_at-in-Obs.new.seats }) c.args.who c.requires.served
     (record { work = c.requires.served.work; clock = c.requires.served.clock; table = c.requires.served.table; sems = c.requires.served.sems; msgqs = c.requires.served.msgqs; signals = c.requires.served.signals; chans = c.requires.served.chans; observers = subst (λ cs. AreSeats (IsLegal obs_machine) obs_start c.args.who cs c.visit_at-in-Obs.new.seats.items) c.deref-in-Obs.ensures.value c.visit_at-in-Obs.ensures.seats; })
 
 pub look-word-requires-clause-later : goal.look-word-requires-clause-later
@@ -267,18 +267,18 @@ see_at-seen-requires-clause-later g c = λ h there.
 
 pub returns-in-LookItem-clause-attempted : goal.returns-in-LookItem-clause-attempted
 returns-in-LookItem-clause-attempted g c =
-    let k = c.args.self.now.kernel.now in
+    let k = c.args.self.now.cells.now in
     looked-item k c.args.self.now.passes c.args.who c.args.number c.in-LookItem.object c.item_at-item.result c.look-word.result.0 c.look-word.result.1 _ c.look-word.new.seat c.look-word.ensures.grew
     c.item_at-item.ensures (rw c.in-LookItem.is at c.requires.range) c.look-word.ensures.word c.look-word.ensures.place c.in-LookItem.is
 
 pub returns-in-LookSignal-clause-attempted : goal.returns-in-LookSignal-clause-attempted
 returns-in-LookSignal-clause-attempted g c =
     let old = desk_shown c.args.self.now.passes in
-    looked-signal (cells_machines c.args.self.now.kernel.now) c.args.who c.args.number c.in-LookSignal.object c.in-LookSignal.must old refl (seen_all c.see_at-seen.new.seats.items) c.see_at-seen.result _ c.told.result
+    looked-signal (cells_machines c.args.self.now.cells.now) c.args.who c.args.number c.in-LookSignal.object c.in-LookSignal.must old refl (seen_all c.see_at-seen.new.seats.items) c.see_at-seen.result _ c.told.result
     c.see_at-seen.ensures.seen c.told.ensures c.in-LookSignal.is
 
 pub returns-in-LookSignal-clause-serves : goal.returns-in-LookSignal-clause-serves
 returns-in-LookSignal-clause-serves g c =
     let p = c.args.self.now.passes in
-    same-players c.args.self.now.kernel.now p (record p { signals = c.see_at-seen.new.seats }) c.args.who c.requires.served
+    same-players c.args.self.now.cells.now p (record p { signals = c.see_at-seen.new.seats }) c.args.who c.requires.served
     (record { work = c.requires.served.work; clock = c.requires.served.clock; table = c.requires.served.table; sems = c.requires.served.sems; msgqs = c.requires.served.msgqs; signals = subst (λ cs. AreSeats (IsLegal signal_machine) signal_start c.args.who cs c.see_at-seen.new.seats.items) c.deref-in-LookSignal.ensures.value c.see_at-seen.ensures.seats; chans = c.requires.served.chans; observers = c.requires.served.observers; })

@@ -1,9 +1,10 @@
 use Rattle.std.proofs.Common.{rules, ◌≡◌, ◌+◌, ◌<◌, ◌≤◌, ◌++◌, ◌∷◌, [], ℕ, length, Some, Option, List, set, get_or, refl, sym, ap, subst, ◌∙◌, arith}
 use Rattle.zk_base.specs.Legal.{IsLegal}
 use Rattle.zk_kernel.specs.Joined.{StandsIn}
-use Rattle.zk_kernel.specs.Closed.{HasWhole, IsClosed}
+use Rattle.zk_kernel.specs.Closed.{IsClosed}
+use Rattle.zk_kernel.specs.Kernels.{HasWhole}
 use Rattle.zk_kernel.proofs.Unpacking.{CameOutSoFar, so-long, long, next-stands, one-out, all-out}
-use Rattle.zk_kernel.proofs.emptying.close_rows.Goals as goal
+use Rattle.zk_kernel.proofs.emptying.empty_rows.Goals as goal
 
 pub index_mut-requires-in-loop-index : goal.index_mut-requires-in-loop-index
 index_mut-requires-in-loop-index g c =
@@ -22,8 +23,8 @@ index_mut-requires-in-loop-index g c =
     let ok-passes = l.passes.ok in
     omega (arith, same.1)
 
-pub close_seat-requires : goal.close_seat-requires
-close_seat-requires g c =
+pub empty_seat-requires : goal.empty_seat-requires
+empty_seat-requires g c =
     let legal = IsLegal g.S.Service.machine in
     let start = g.S.Service.start in
     let history = g.S.Service.history in
@@ -56,10 +57,10 @@ loop-index-preserved g c =
     let end = c.len-index-end.ensures in
     let ok = c.args.cells.ok in
     subst (λ xs. CameOutSoFar legal start history (l.index + 1) cs0 ps0 (set l.cells.items l.index c.take-cell.new.self) (set l.passes.items l.index c.take-pass.new.self) xs) (sym c.in_ok-push.ensures.items)
-    (one-out legal start history l.index cs0 ps0 l.cells.items l.passes.items l.services.items c.index_mut.result.now c.take-cell.new.self c.index_mut-in-loop-index.result.now c.take-pass.new.self c.close_seat.result l.invariant many (omega arith)
+    (one-out legal start history l.index cs0 ps0 l.cells.items l.passes.items l.services.items c.index_mut.result.now c.take-cell.new.self c.index_mut-in-loop-index.result.now c.take-pass.new.self c.empty_seat.result l.invariant many (omega arith)
         c.index_mut.ensures.value c.index_mut-in-loop-index.ensures.value
-        (subst (λ k. IsClosed legal start history k c.index_mut-in-loop-index.result.now c.close_seat.result) c.take-cell.ensures.value
-        (subst (λ p. IsClosed legal start history c.take-cell.result p c.close_seat.result) c.take-pass.ensures.value c.close_seat.ensures)))
+        (subst (λ k. IsClosed legal start history k c.index_mut-in-loop-index.result.now c.empty_seat.result) c.take-cell.ensures.value
+        (subst (λ p. IsClosed legal start history c.take-cell.result p c.empty_seat.result) c.take-pass.ensures.value c.empty_seat.ensures)))
 
 pub returns : goal.returns
 returns g c =
