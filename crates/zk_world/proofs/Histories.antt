@@ -1,19 +1,18 @@
--- The histories of a run are in form.
+-- The histories of a sound world are in form.
 use Rattle.std.proofs.Common.{◌≡◌, ℕ, true, Some, List, All, ap, ◌∙◌}
 use Rattle.std.specs.List.{AllByRecursion, slice_get}
 use Rattle.std.specs.Option.{option_map, option_and_then}
 use Rattle.zk_base.specs.declared.ids.Entry.{Entry}
 use Rattle.zk_base.proofs.Lists.{All-at}
 use Rattle.zk_scenario.specs.Content.{Content}
-use Rattle.zk_scenario.specs.Valid.{IsValid}
 use Rattle.zk_model_bus.specs.Table.{new_table}
 use Rattle.zk_worker.specs.declared.steps.Step.{Step}
 use Rattle.zk_worker.specs.declared.steps.Step.TheVariants as steps
 use Rattle.zk_worker.specs.declared.steps.Spot.TheVariants as spots
 use Rattle.zk_worker.specs.Families.{entry_at}
-use Rattle.zk_worker.specs.Machines.{machines_of}
 use Rattle.zk_worker.specs.Ranges.{step_fits}
 use Rattle.zk_worker.specs.TableSetup.{setup_of}
+use Rattle.zk_trace.specs.declared.trace.Ending.{Ending}
 use Rattle.zk_trace.specs.Sized.{AreSized, IsSizedWork, IsSizedWrite, IsSizedEntry, IsSized}
 use Rattle.zk_trace.specs.Work as work
 use Rattle.zk_trace.specs.WorkRead as work_read
@@ -33,12 +32,12 @@ use Rattle.zk_trace.specs.Obs as obs
 use Rattle.zk_trace.specs.ObsRead as obs_read
 use Rattle.zk_trace.proofs.HistoriesFit.{IsAsked, all-there, work-fits, clock-fits, table-fits, sems-fit, msgqs-fit, signals-fit, chans-fit, observers-fit}
 use Rattle.zk_trace.proofs.LogAnswers.{ShownFits}
-use Rattle.zk_replay.specs.RoundRobin.{World, IsRun}
-use Rattle.zk_replay.specs.Replay.{trace_of}
-use Rattle.zk_replay.proofs.AheadSays.{SaysFit}
-use Rattle.zk_replay.proofs.EntriesFit.{request, RequestFits, run-fitting}
-use Rattle.zk_replay.proofs.Legality.{run-legal, Work, Clock, Table, Sems, Msgqs, Signals, Chans, Observers}
-use Rattle.zk_replay.proofs.OpsFit.{work-op, clock-op, table-op, sem-op, msgq-op, signal-op, chan-op, obs-op}
+use Rattle.zk_world.specs.Requests.{request, RequestFits}
+use Rattle.zk_world.specs.Says.{SaysFit}
+use Rattle.zk_world.specs.Sound.{IsSound}
+use Rattle.zk_world.specs.Traces.{world_trace}
+use Rattle.zk_world.specs.World.{World}
+use Rattle.zk_world.proofs.OpsFit.{work-op, clock-op, table-op, sem-op, msgq-op, signal-op, chan-op, obs-op}
 
 module _ {O R : Type 0} (s : Content) (Op : O → Type 0) (Reply : R → Type 0) (FitsOp : O → Type 0) (Sized : R → Type 0) (told : (r : R) → Reply r → Sized r) where
   -- an operation that names what is declared, and whose numbers are within their types, is in form
@@ -61,27 +60,27 @@ module _ {O R : Type 0} (s : Content) (Op : O → Type 0) (Reply : R → Type 0)
       history-asked (step object) (fits object) h (λ k e at. each object k e (ap (option_and_then (λ (h : List (Entry O R)). slice_get h k)) there ∙ at))
       (All-at (All (IsSizedEntry Op Reply)) hs object h sized there))
 
--- all histories of a run are in form, where the numbers of its trace are within their types
-pub histories-fit : (s : Content) (w : World) → IsValid s → IsRun (machines_of s) s w → IsSized (trace_of s w) → ShownFits s.decls w.shown
-histories-fit s w valid run sized =
+-- all histories of a sound world are in form, where the numbers of its trace are within their types
+pub histories-fit : (s : Content) (ending : Ending) (w : World) → IsSound s w → IsSized (world_trace s ending w) → ShownFits s.decls w.shown
+histories-fit s ending w sound sized =
     let ds = s.decls in
-    let legal = run-legal s w valid run in
-    let asked = (run-fitting s w valid run).requests in
+    let legal = sound.legal in
+    let asked = sound.fitting.requests in
     record {
-      work = work-fits s w.shown.work (legal Work) (history-asked s (λ op. AreSized (work.said_of op).1) IsSizedWork (work_read.FitsOp ds) IsSizedWork (λ r is. is)
+      work = work-fits s w.shown.work legal.work (history-asked s (λ op. AreSized (work.said_of op).1) IsSizedWork (work_read.FitsOp ds) IsSizedWork (λ r is. is)
           steps.Work (λ op fits says. work-op ds op fits) w.shown.work (λ k e there. asked (spots.Work k) (request e.who (steps.Work e.op)) (ap (option_map (λ e. request e.who (steps.Work e.op))) there)) sized.work);
-      clock = clock-fits s w.shown.clock (legal Clock) (history-asked s (λ op. AreSized (clock.said_of op).1) (λ r. AreSized (clock.reply_parts r)) (clock_read.FitsOp ds) (λ r. AreSized (clock.reply_parts r)) (λ r is. is)
+      clock = clock-fits s w.shown.clock legal.clock (history-asked s (λ op. AreSized (clock.said_of op).1) (λ r. AreSized (clock.reply_parts r)) (clock_read.FitsOp ds) (λ r. AreSized (clock.reply_parts r)) (λ r is. is)
           steps.Clock (λ op fits says. clock-op ds op) w.shown.clock (λ k e there. asked (spots.Clock k) (request e.who (steps.Clock e.op)) (ap (option_map (λ e. request e.who (steps.Clock e.op))) there)) sized.clock);
-      table = table-fits s (new_table (setup_of s)) w.shown.table (legal Table) (history-asked s (λ op. AreSized (table.said_of op).1) (λ r. AreSized (table.reply_parts r)) (table_read.FitsOp ds) (λ r. Unit {0}) (λ r is. tt)
+      table = table-fits s (new_table (setup_of s)) w.shown.table legal.table (history-asked s (λ op. AreSized (table.said_of op).1) (λ r. AreSized (table.reply_parts r)) (table_read.FitsOp ds) (λ r. Unit {0}) (λ r is. tt)
           steps.Table (λ op fits says is. table-op ds op fits) w.shown.table (λ k e there. asked (spots.Table k) (request e.who (steps.Table e.op)) (ap (option_map (λ e. request e.who (steps.Table e.op))) there)) sized.table);
-      sems = sems-fit s w.shown.sems (legal Sems) (histories-asked s (λ op. AreSized (sem.said_of op).1) (λ r. AreSized (sem.reply_parts r)) (sem_read.FitsOp ds) (λ r. AreSized (sem.reply_parts r)) (λ r is. is)
+      sems = sems-fit s w.shown.sems legal.sems (histories-asked s (λ op. AreSized (sem.said_of op).1) (λ r. AreSized (sem.reply_parts r)) (sem_read.FitsOp ds) (λ r. AreSized (sem.reply_parts r)) (λ r is. is)
           steps.Sem (λ object op fits says. sem-op ds op) w.shown.sems (λ object k e there. asked (spots.Sem object k) (request e.who (steps.Sem object e.op)) (ap (option_map (λ e. request e.who (steps.Sem object e.op))) there)) sized.sems);
-      msgqs = msgqs-fit s w.shown.msgqs (legal Msgqs) (histories-asked s (λ op. AreSized (msgq.said_of op).1) (λ r. AreSized (msgq.reply_parts r)) (msgq_read.FitsOp ds) (λ r. AreSized (msgq.reply_parts r)) (λ r is. is)
+      msgqs = msgqs-fit s w.shown.msgqs legal.msgqs (histories-asked s (λ op. AreSized (msgq.said_of op).1) (λ r. AreSized (msgq.reply_parts r)) (msgq_read.FitsOp ds) (λ r. AreSized (msgq.reply_parts r)) (λ r is. is)
           steps.Msgq (λ object op fits says. msgq-op ds object op says) w.shown.msgqs (λ object k e there. asked (spots.Msgq object k) (request e.who (steps.Msgq object e.op)) (ap (option_map (λ e. request e.who (steps.Msgq object e.op))) there)) sized.msgqs);
-      signals = signals-fit s w.shown.signals (legal Signals) (histories-asked s IsSizedWrite (λ r. AreSized (signal.reply_parts r)) (signal_read.FitsOp ds) (λ r. AreSized (signal.reply_parts r)) (λ r is. is)
+      signals = signals-fit s w.shown.signals legal.signals (histories-asked s IsSizedWrite (λ r. AreSized (signal.reply_parts r)) (signal_read.FitsOp ds) (λ r. AreSized (signal.reply_parts r)) (λ r is. is)
           steps.Signal (λ object op fits says. signal-op ds op) w.shown.signals (λ object k e there. asked (spots.Signal object k) (request e.who (steps.Signal object e.op)) (ap (option_map (λ e. request e.who (steps.Signal object e.op))) there)) sized.signals);
-      chans = chans-fit s w.shown.chans valid (legal Chans) (histories-asked s (λ op. AreSized (chan.said_of op).1) (λ r. AreSized (chan.reply_parts r)) (chan_read.FitsOp ds) (λ r. AreSized (chan.reply_parts r)) (λ r is. is)
+      chans = chans-fit s w.shown.chans sound.ready.valid legal.chans (histories-asked s (λ op. AreSized (chan.said_of op).1) (λ r. AreSized (chan.reply_parts r)) (chan_read.FitsOp ds) (λ r. AreSized (chan.reply_parts r)) (λ r is. is)
           steps.Chan (λ object op fits says. chan-op ds object op says) w.shown.chans (λ object k e there. asked (spots.Chan object k) (request e.who (steps.Chan object e.op)) (ap (option_map (λ e. request e.who (steps.Chan object e.op))) there)) sized.chans);
-      observers = observers-fit s w.shown.observers (legal Observers) (histories-asked s (λ op. AreSized (obs.said_of op).1) (λ r. AreSized (obs.reply_parts r)) (obs_read.FitsOp ds) (λ r. Unit {0}) (λ r is. tt)
+      observers = observers-fit s w.shown.observers legal.observers (histories-asked s (λ op. AreSized (obs.said_of op).1) (λ r. AreSized (obs.reply_parts r)) (obs_read.FitsOp ds) (λ r. Unit {0}) (λ r is. tt)
           steps.Obs (λ object op fits says. obs-op ds object op says) w.shown.observers (λ object k e there. asked (spots.Obs object k) (request e.who (steps.Obs object e.op)) (ap (option_map (λ e. request e.who (steps.Obs object e.op))) there)) sized.observers);
     }

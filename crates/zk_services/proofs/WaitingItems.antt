@@ -1,13 +1,13 @@
 -- Whether an admission waits, by the busy flags of the items.
-use Rattle.std.proofs.Common.{◌≡◌, ℕ, suc, ◌+◌, ◌*◌, ◌/◌, ◌%◌, ◌<◌, ◌≤◌, Bool, true, false, not, ◌&&◌, cond, eqb, nat_lt, eq-eqb, Option, Some, None, is_some, List, [], ◌∷◌, length, map, All, bit_and, refl, sym, ap, ◌∙◌, arith}
-use Rattle.std.specs.List.{slice_get, list_all, AllByRecursion}
+use Rattle.std.proofs.Common.{◌≡◌, ℕ, suc, ◌+◌, ◌*◌, ◌/◌, ◌%◌, ◌<◌, ◌≤◌, Bool, true, false, not, ◌&&◌, cond, eqb, nat_lt, eq-eqb, Option, Some, None, is_some, List, [], ◌∷◌, length, map, All, bit_and, refl, sym, ap, subst, ◌∙◌, arith}
+use Rattle.std.specs.List.{slice_get, list_all}
 use Rattle.std.proofs.lemmas.Bool.{and_from, lt-ltb, false≢true}
-use Rattle.std.proofs.lemmas.List.Elements.{All-nil}
+use Rattle.std.proofs.lemmas.List.Elements.{All-nil, All-head, All-tail}
 use Rattle.std.proofs.lemmas.List.FromFn.{length-range_with_len}
 use Rattle.std.proofs.lemmas.Nat.Bits.{and_pow}
 use Rattle.zk_base.specs.declared.ids.Entry.{Entry}
 use Rattle.zk_base.specs.declared.ids.Who.{Who}
-use Rattle.zk_base.specs.Legal.{state_after}
+use Rattle.zk_base.specs.Legal.{state_after, AreInRange}
 use Rattle.zk_base.proofs.Lists.{All-at, and_second, list_all-at, none_from_is_some}
 use Rattle.zk_line.specs.declared.types.Decl.{Decl}
 use Rattle.zk_line.specs.Objects.{places, is_thread, is_queue, is_item}
@@ -15,7 +15,7 @@ use Rattle.zk_model_work.specs.declared.ops.WorkOp.{WorkOp}
 use Rattle.zk_model_work.specs.declared.ops.WorkOp.TheVariants as ops
 use Rattle.zk_model_work.specs.declared.ops.WorkReply.{WorkReply}
 use Rattle.zk_model_work.specs.declared.parts.Admission.{Admission}
-use Rattle.zk_model_work.specs.Machine.{work_machine, work_next, delayed, schedule, is_pending_in, submission_in, submit, arm, disarm, flags_of}
+use Rattle.zk_model_work.specs.Machine.{work_machine, work_next, is_among, delayed, schedule, is_pending_in, submission_in, submit, arm, disarm, flags_of}
 use Rattle.zk_model_work.specs.Questions.{is_waiting, waits_as, waiting, weight, busy_flags}
 use Rattle.zk_model_work.specs.State.{State}
 use Rattle.zk_model_work.proofs.Counts.{length-fresh_queues}
@@ -26,8 +26,8 @@ use Rattle.zk_worker.specs.Machines.{Machines, machines_of, workers, is_on, work
 use Rattle.zk_worker.specs.Shown.{Shown}
 use Rattle.zk_worker.proofs.Ranges.{same-lengths}
 use Rattle.zk_trace.specs.Ending.{none_waits}
-use Rattle.zk_trace.specs.EntryKinds.{IsWork}
-use Rattle.zk_trace.proofs.WorkStates.{Admits, Arms, Keeps, keeps}
+use Rattle.zk_trace.proofs.WorkStates.{Admits, Arms, Keeps}
+use Rattle.zk_services.proofs.Admitted.{IsDeclared, declared-keeps}
 
 -- The items of the states that a history comes to.
 
@@ -52,20 +52,25 @@ pub items-after : (st : State) (h : List (Entry WorkOp WorkReply)) → (state_af
 items-after st [] = refl
 items-after st (e ∷ h) = items-after (work_next st e.who e.op) h ∙ items-next st e.who e.op
 
-keeps-after : (decls : List Decl) (st : State) (h : List (Entry WorkOp WorkReply)) → Keeps decls st → AllByRecursion (IsWork decls) h → Keeps decls (state_after work_machine st h)
-keeps-after decls st [] kept fit = kept
-keeps-after decls st (e ∷ h) kept fit = keeps-after decls (work_next st e.who e.op) h (keeps decls st e.who e.op kept fit.0.op) fit.1
+keeps-after : (decls : List Decl) (st : State) (h : List (Entry WorkOp WorkReply)) → Keeps decls st → All (IsDeclared decls) h → Keeps decls (state_after work_machine st h)
+keeps-after decls st [] kept all = kept
+keeps-after decls st (e ∷ h) kept all =
+    keeps-after decls (work_next st e.who e.op) h (declared-keeps decls st e.who e.op kept (All-head (IsDeclared decls) e h all)) (All-tail (IsDeclared decls) e h all)
 
--- the admissions of a history in form are of items that are declared
-pub admits-after : (s : Content) (h : List (Entry WorkOp WorkReply)) → AllByRecursion (IsWork s.decls) h → All (Admits s.decls) (state_after work_machine (work_start_of s) h).admissions
-admits-after s h fit = (keeps-after s.decls (work_start_of s) h start fit).admissions where
+-- the admissions of a history whose ids are in range are of items that are declared
+pub admits-after : (s : Content) (h : List (Entry WorkOp WorkReply)) → AreInRange work_machine (work_start_of s) h → All (Admits s.decls) (state_after work_machine (work_start_of s) h).admissions
+admits-after s h in_range = (keeps-after s.decls (work_start_of s) h start all).admissions where
+  long : length (work_start_of s).queues ≡ length (places is_queue s.decls)
+  long = length-fresh_queues (workers s.decls) (map (is_on s.decls) (places is_queue s.decls)) (same-lengths s)
+      ∙ length-range_with_len (length (places is_thread s.decls)) (length (places is_queue s.decls))
+
   start : Keeps s.decls (work_start_of s)
-  start = record {
-    admissions = All-nil (Admits s.decls);
-    arms = All-nil (Arms s.decls);
-    queues = length-fresh_queues (workers s.decls) (map (is_on s.decls) (places is_queue s.decls)) (same-lengths s)
-        ∙ length-range_with_len (length (places is_thread s.decls)) (length (places is_queue s.decls));
-  }
+  start = record { admissions = All-nil (Admits s.decls); arms = All-nil (Arms s.decls); queues = long }
+
+  all : All (IsDeclared s.decls) h
+  all =
+      let In : ℕ → Entry WorkOp WorkReply → Type 0 = λ queues e. is_among (length (places is_item s.decls)) queues e.op ≡ true in
+      subst (λ (queues : ℕ). All (In queues) h) long in_range
 
 -- The flag.
 

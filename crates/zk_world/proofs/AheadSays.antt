@@ -1,5 +1,4 @@
--- What the attempts of a player say beside the objects that they are made at: a message has its size, an observer that is masked
--- and the channel of a visit are declared.
+-- What the attempts of a player say beside the objects that they are made at.
 use Rattle.std.proofs.Common.{◌≡◌, ◌⊎◌, inl, inr, ℕ, Bool, true, false, ◌&&◌, nat_le, Option, Some, None, List, [], ◌∷◌, length, All, refl, sym, ap, subst, ◌∙◌}
 use Rattle.std.specs.List.{slice_get, list_all}
 use Rattle.std.specs.Option.{option_and_then, option_map_or}
@@ -63,18 +62,10 @@ use Rattle.zk_worker.proofs.Fits.{TopHasObjects}
 use Rattle.zk_worker.proofs.FreeCalls.{own-objects}
 use Rattle.zk_worker.proofs.PollSteps.{poll_attempts-each}
 use Rattle.std.proofs.lemmas.List.Elements.{All-head}
+use Rattle.zk_world.specs.Says.{SaysFit}
 
 module _ (decls : List Decl) where
-  -- what a step says of messages, observers and channels
-  abbrev pub SaysFit : Step → Type 0
-  SaysFit (steps.Msgq object (msgq_ops.Put message waits)) = is_message message ≡ true
-  SaysFit (steps.Chan object (chan_ops.Offer message waits)) = is_message message ≡ true
-  SaysFit (steps.Chan object (chan_ops.Set message)) = is_message message ≡ true
-  SaysFit (steps.Chan object (chan_ops.Mask observer on)) = is_at is_observer decls observer ≡ true
-  SaysFit (steps.Obs object (obs_ops.Visit channel)) = is_at is_chan decls channel ≡ true
-  SaysFit step = Unit {0}
-
-  -- and what a call does
+  -- what a call says
   abbrev WaitSays : Waiting → Type 0
   WaitSays (Put object message) = is_message message ≡ true
   WaitSays (Offer object message) = is_message message ≡ true
@@ -85,19 +76,19 @@ module _ (decls : List Decl) where
   UsingSays using_ = Unit {0}
 
   abbrev PlanSays : Plan → Type 0
-  PlanSays (One step) = SaysFit step
-  PlanSays (Pair opening closing) = SaysFit opening
-  PlanSays (Twice first second) = SaysFit first × SaysFit second
+  PlanSays (One step) = SaysFit decls step
+  PlanSays (Pair opening closing) = SaysFit decls opening
+  PlanSays (Twice first second) = SaysFit decls first × SaysFit decls second
   PlanSays (Wait waiting timeout) = WaitSays waiting
   PlanSays (Poll timeout events) = Unit {0}
   PlanSays (Channel chan using_ timeout) = (is_at is_chan decls chan ≡ true) × UsingSays using_
 
   -- What it attempts.
 
-  one-says : (step : Step) → SaysFit step → All SaysFit (step ∷ [])
-  one-says step says = All-cons SaysFit step [] says (All-nil SaysFit)
+  one-says : (step : Step) → SaysFit decls step → All (SaysFit decls) (step ∷ [])
+  one-says step says = All-cons (SaysFit decls) step [] says (All-nil (SaysFit decls))
 
-  open-says : (waiting : Waiting) (waits : Bool) → WaitSays waiting → SaysFit (open_step waiting waits)
+  open-says : (waiting : Waiting) (waits : Bool) → WaitSays waiting → SaysFit decls (open_step waiting waits)
   open-says (Take object) waits says = tt
   open-says (Put object message) waits says = says
   open-says (Get object) waits says = tt
@@ -106,49 +97,49 @@ module _ (decls : List Decl) where
   open-says (Offer object message) waits says = says
   open-says (Enter object) waits says = tt
 
-  end-says : (waiting : Waiting) (place : ℕ) → SaysFit (end_step waiting place)
+  end-says : (waiting : Waiting) (place : ℕ) → SaysFit decls (end_step waiting place)
   end-says (Take object) place = tt
   end-says waiting place = tt
 
-  quit-says : (waiting : Waiting) (place : ℕ) → SaysFit (quit_step waiting place)
+  quit-says : (waiting : Waiting) (place : ℕ) → SaysFit decls (quit_step waiting place)
   quit-says (Take object) place = tt
   quit-says waiting place = tt
 
-  first-says : (waiting : Waiting) (timeout : Timeout) → WaitSays waiting → SaysFit (first_step waiting timeout)
+  first-says : (waiting : Waiting) (timeout : Timeout) → WaitSays waiting → SaysFit decls (first_step waiting timeout)
   first-says waiting No says = open-says waiting false says
   first-says waiting Forever says = open-says waiting true says
   first-says waiting (Ticks ticks) says = tt
 
-  wait-says : (waiting : Waiting) (timeout : Timeout) (stage : Stage) → WaitSays waiting → All SaysFit (wait_attempts waiting timeout stage)
+  wait-says : (waiting : Waiting) (timeout : Timeout) (stage : Stage) → WaitSays waiting → All (SaysFit decls) (wait_attempts waiting timeout stage)
   wait-says waiting timeout Start says = one-says (first_step waiting timeout) (first-says waiting timeout says)
   wait-says waiting timeout (Alarmed moment) says = one-says (open_step waiting true) (open-says waiting true says)
   wait-says waiting timeout (Waits place) says = one-says (end_step waiting place) (end-says waiting place)
   wait-says waiting timeout (WaitsUntil place moment) says =
-      All-cons SaysFit (end_step waiting place) (steps.Clock (clock_ops.AlarmEnd moment) ∷ []) (end-says waiting place) (one-says (steps.Clock (clock_ops.AlarmEnd moment)) tt)
+      All-cons (SaysFit decls) (end_step waiting place) (steps.Clock (clock_ops.AlarmEnd moment) ∷ []) (end-says waiting place) (one-says (steps.Clock (clock_ops.AlarmEnd moment)) tt)
   wait-says waiting timeout (Quits place) says = one-says (quit_step waiting place) (quit-says waiting place)
-  wait-says waiting timeout stage says = All-nil SaysFit
+  wait-says waiting timeout stage says = All-nil (SaysFit decls)
 
-  closing-says : (closing : Closing) (place : ℕ) → SaysFit (closing_step closing place)
+  closing-says : (closing : Closing) (place : ℕ) → SaysFit decls (closing_step closing place)
   closing-says closings.Cancel place = tt
   closing-says closings.Flush place = tt
   closing-says closings.Drain place = tt
 
-  made-says : (made step : Step) → SaysFit made → Some made ≡ Some step → SaysFit step
-  made-says made step says is = let same : made ≡ step = cc in subst SaysFit same says
+  made-says : (made step : Step) → SaysFit decls made → Some made ≡ Some step → SaysFit decls step
+  made-says made step says is = let same : made ≡ step = cc in subst (SaysFit decls) same says
 
-  ask-says : (registers : Bool) (event : Event) (step : Step) → Unit {0} → ask_step registers event ≡ Some step → SaysFit step
+  ask-says : (registers : Bool) (event : Event) (step : Step) → Unit {0} → ask_step registers event ≡ Some step → SaysFit decls step
   ask-says registers sources.Ignore step any is = absurd (cc)
   ask-says registers (sources.Sem sem) step any is = made-says (steps.Sem (ref_object sem) (sem_ops.PollArm registers)) step tt is
   ask-says registers (sources.Msgq queue) step any is = made-says (steps.Msgq (ref_object queue) (msgq_ops.PollArm registers)) step tt is
   ask-says registers (sources.Sig signal) step any is = made-says (steps.LookSignal (ref_object signal) false) step tt is
 
-  watch-says : (event : Event) (mark : Mark) (step : Step) → Unit {0} → watch_step event mark ≡ Some step → SaysFit step
+  watch-says : (event : Event) (mark : Mark) (step : Step) → Unit {0} → watch_step event mark ≡ Some step → SaysFit decls step
   watch-says (sources.Sem sem) (Armed place) step any is = made-says (steps.Sem (ref_object sem) (sem_ops.PollEnd place)) step tt is
   watch-says (sources.Msgq queue) (Armed place) step any is = made-says (steps.Msgq (ref_object queue) (msgq_ops.PollEnd place)) step tt is
   watch-says (sources.Sig signal) mark step any is = made-says (steps.LookSignal (ref_object signal) true) step tt is
   watch-says event mark step any is = absurd (cc)
 
-  drop-says : (event : Event) (mark : Mark) (step : Step) → Unit {0} → drop_step event mark ≡ Some step → SaysFit step
+  drop-says : (event : Event) (mark : Mark) (step : Step) → Unit {0} → drop_step event mark ≡ Some step → SaysFit decls step
   drop-says (sources.Sem sem) (Armed place) step any is = made-says (steps.Sem (ref_object sem) (sem_ops.PollQuit place)) step tt is
   drop-says (sources.Msgq queue) (Armed place) step any is = made-says (steps.Msgq (ref_object queue) (msgq_ops.PollQuit place)) step tt is
   drop-says event mark step any is = absurd (cc)
@@ -157,31 +148,31 @@ module _ (decls : List Decl) where
   any-event [] = All-nil (λ event. Unit {0})
   any-event (event ∷ events) = All-cons (λ event. Unit {0}) event events tt (any-event events)
 
-  poll-says : (timeout : Timeout) (events : List Event) (stage : Stage) → All SaysFit (poll_attempts timeout events stage)
+  poll-says : (timeout : Timeout) (events : List Event) (stage : Stage) → All (SaysFit decls) (poll_attempts timeout events stage)
   poll-says timeout events stage =
-      poll_attempts-each SaysFit (λ event. Unit {0}) ask-says watch-says drop-says (λ op. tt) timeout events stage (any-event events)
+      poll_attempts-each (SaysFit decls) (λ event. Unit {0}) ask-says watch-says drop-says (λ op. tt) timeout events stage (any-event events)
 
   asks-says : (chan : ℕ) (using_ : Using) → UsingSays using_ → WaitSays (asks_for chan using_)
   asks-says chan (Publish message) says = says
   asks-says chan Notify says = tt
   asks-says chan Read says = tt
 
-  use-says : (chan : ℕ) (using_ : Using) → UsingSays using_ → SaysFit (use_step chan using_)
+  use-says : (chan : ℕ) (using_ : Using) → UsingSays using_ → SaysFit decls (use_step chan using_)
   use-says chan (Publish message) says = says
   use-says chan Notify says = tt
   use-says chan Read says = tt
 
-  visit-says : (chan : ℕ) (left : List ℕ) → is_at is_chan decls chan ≡ true → SaysFit (visit_step chan left)
+  visit-says : (chan : ℕ) (left : List ℕ) → is_at is_chan decls chan ≡ true → SaysFit decls (visit_step chan left)
   visit-says chan [] is = tt
   visit-says chan (observer ∷ left) is = is
 
-  channel-says : (chan : ℕ) (using_ : Using) (timeout : Timeout) (stage : Stage) → is_at is_chan decls chan ≡ true → UsingSays using_ → All SaysFit (channel_attempts chan using_ timeout stage)
+  channel-says : (chan : ℕ) (using_ : Using) (timeout : Timeout) (stage : Stage) → is_at is_chan decls chan ≡ true → UsingSays using_ → All (SaysFit decls) (channel_attempts chan using_ timeout stage)
   channel-says chan using_ timeout Holds is says = one-says (use_step chan using_) (use-says chan using_ says)
   channel-says chan using_ timeout (Visits left full) is says = one-says (visit_step chan left) (visit-says chan left is)
   channel-says chan using_ timeout (Reads message) is says = one-says (steps.Chan chan chan_ops.Free) tt
   channel-says chan using_ timeout stage is says = wait-says (asks_for chan using_) timeout stage (asks-says chan using_ says)
 
-  attempts-say : (plan : Plan) (stage : Stage) → PlanSays plan → All SaysFit (plan_attempts plan stage)
+  attempts-say : (plan : Plan) (stage : Stage) → PlanSays plan → All (SaysFit decls) (plan_attempts plan stage)
   attempts-say (One step) Start says = one-says step says
   attempts-say (Pair opening closing) Start says = one-says opening says
   attempts-say (Pair opening closing) (Waits place) says = one-says (closing_step closing place) (closing-says closing place)
@@ -190,12 +181,12 @@ module _ (decls : List Decl) where
   attempts-say (Wait waiting timeout) stage says = wait-says waiting timeout stage says
   attempts-say (Poll timeout events) stage says = poll-says timeout events stage
   attempts-say (Channel chan using_ timeout) stage says = channel-says chan using_ timeout stage says.0 says.1
-  attempts-say plan stage says = All-nil SaysFit
+  attempts-say plan stage says = All-nil (SaysFit decls)
 
-  worker-says : (queue : ℕ) (stage : Stage) → All SaysFit (worker_attempts queue stage)
+  worker-says : (queue : ℕ) (stage : Stage) → All (SaysFit decls) (worker_attempts queue stage)
   worker-says queue Start = one-says (steps.Work (ops.Begin queue)) tt
   worker-says queue Runs = one-says (steps.Work (ops.End queue)) tt
-  worker-says queue stage = All-nil SaysFit
+  worker-says queue stage = All-nil (SaysFit decls)
 
 -- What a call of a valid scenario says.
 

@@ -1,4 +1,4 @@
--- The histories of a run are legal.
+-- What is shown stays legal: each entry is what its machine answers.
 use Rattle.std.proofs.Common.{◌≡◌, ℕ, zero, suc, true, false, Option, Some, None, List, [], ◌∷◌, ◌++◌, length, map, refl, sym, ap, subst, ◌∙◌}
 use Rattle.std.specs.List.{slice_get, AllZip}
 use Rattle.std.specs.Option.{option_and_then, option_map_or}
@@ -9,62 +9,40 @@ use Rattle.zk_base.specs.History.{entry, IsAbove}
 use Rattle.zk_base.specs.Legal.{Machine, state_after, IsLegal}
 use Rattle.zk_base.proofs.Histories.{IsLegal-nil, IsLegal-snoc}
 use Rattle.zk_scenario.specs.Content.{Content}
-use Rattle.zk_scenario.specs.Valid.{IsValid}
+use Rattle.zk_model_bus.specs.declared.channel.ChanOp.{ChanOp}
+use Rattle.zk_model_bus.specs.declared.channel.ChanReply.{ChanReply}
+use Rattle.zk_model_bus.specs.declared.observer.ObsOp.{ObsOp}
+use Rattle.zk_model_bus.specs.declared.observer.ObsReply.{ObsReply}
+use Rattle.zk_model_bus.specs.declared.table.TableOp.{TableOp}
+use Rattle.zk_model_bus.specs.declared.table.TableReply.{TableReply}
+use Rattle.zk_model_wait.specs.declared.clock.ClockOp.{ClockOp}
+use Rattle.zk_model_wait.specs.declared.clock.ClockReply.{ClockReply}
+use Rattle.zk_model_wait.specs.declared.msgq.MsgqOp.{MsgqOp}
+use Rattle.zk_model_wait.specs.declared.msgq.MsgqReply.{MsgqReply}
+use Rattle.zk_model_wait.specs.declared.sem.SemOp.{SemOp}
+use Rattle.zk_model_wait.specs.declared.sem.SemReply.{SemReply}
+use Rattle.zk_model_wait.specs.declared.signal.SignalOp.{SignalOp}
+use Rattle.zk_model_wait.specs.declared.signal.SignalReply.{SignalReply}
+use Rattle.zk_model_work.specs.declared.ops.WorkOp.{WorkOp}
+use Rattle.zk_model_work.specs.declared.ops.WorkReply.{WorkReply}
 use Rattle.zk_worker.specs.declared.steps.Step.{Step}
 use Rattle.zk_worker.specs.declared.steps.Step.TheVariants as steps
 use Rattle.zk_worker.specs.declared.steps.StepReply.{StepReply}
 use Rattle.zk_worker.specs.declared.steps.StepReply.TheVariants as step_replies
-use Rattle.zk_worker.specs.Protocol.{attempts}
 use Rattle.zk_line.specs.declared.types.Decl.{Decl}
 use Rattle.zk_model_wait.specs.Msgq.{msgq_machine}
 use Rattle.zk_model_wait.specs.Sem.{sem_machine}
 use Rattle.zk_model_wait.specs.Signal.{signal_machine}
 use Rattle.zk_model_bus.specs.Channel.{chan_machine}
 use Rattle.zk_model_bus.specs.Observer.{obs_machine}
-use Rattle.zk_worker.specs.Ranges.{IsFit}
-use Rattle.zk_base.proofs.Lists.{All-at}
 use Rattle.zk_worker.specs.Machines.{Machines, machines_of, sem_start, msgq_start, signal_start, chan_start, observer_start}
 use Rattle.zk_worker.specs.Single.{answer_in}
 use Rattle.zk_worker.specs.Families.{Family, start_of, no_entries, with_entry, answer_at, takes_at}
-use Rattle.zk_worker.specs.Shown.{Shown, shown_after, IsLater}
+use Rattle.zk_worker.specs.Shown.{Shown, nothing_shown, shown_after, IsLater}
 use Rattle.zk_worker.specs.Attempt.{reply_in, is_in_range}
-use Rattle.zk_worker.proofs.Between.{above-work, above-clock, above-table, above-sems, above-msgqs, above-signals, above-chans, above-observers, log-later}
-use Rattle.zk_worker.proofs.Ranges.{ahead-takes}
+use Rattle.zk_worker.proofs.Between.{above-work, above-clock, above-table, above-sems, above-msgqs, above-signals, above-chans, above-observers}
 use Rattle.zk_worker.proofs.ShownSteps.{made-of}
-use Rattle.zk_worker.proofs.Lists.{none-passes}
-use Rattle.zk_worker.specs.Follows.{is_spent_at}
-use Rattle.zk_trace.proofs.LegalHistories.{IsLegalAt, EachLegal}
-use Rattle.zk_replay.specs.RoundRobin.{World, IsRun, first}
-use Rattle.zk_replay.specs.Ready.{IsReady}
-use Rattle.zk_replay.proofs.StillRounds.{first_possible-is, rounds-keep}
-use Rattle.zk_replay.proofs.Readiness.{ready-stepped}
-use Rattle.zk_replay.proofs.Beginning.{ready-first}
-
--- the services, all objects of a kind together
-pub data Service : Type 0 where
-  Work : Service
-  Clock : Service
-  Table : Service
-  Sems : Service
-  Msgqs : Service
-  Signals : Service
-  Chans : Service
-  Observers : Service
-
--- what is shown of a service is legal
-abbrev pub IsLegalOf : Machines → Shown → Service → Type 0
-IsLegalOf m shown Work = IsLegal m.work m.work_start shown.work
-IsLegalOf m shown Clock = IsLegal m.clock m.clock_start shown.clock
-IsLegalOf m shown Table = IsLegal m.table m.table_start shown.table
-IsLegalOf m shown Sems = EachLegal m.sems shown.sems
-IsLegalOf m shown Msgqs = EachLegal m.msgqs shown.msgqs
-IsLegalOf m shown Signals = EachLegal m.signals shown.signals
-IsLegalOf m shown Chans = EachLegal m.chans shown.chans
-IsLegalOf m shown Observers = EachLegal m.observers shown.observers
-
--- what is shown is legal, for the machines that the services have
-abbrev pub IsLegalShown : Machines → Shown → Type 0
-IsLegalShown m shown = (service : Service) → IsLegalOf m shown service
+use Rattle.zk_world.specs.Legal.{IsLegalAt, EachLegal, IsLegalShown}
 
 module _ {S O R : Type 0} where
   -- nothing that was done is legal
@@ -132,78 +110,93 @@ module _ {S O R : Type 0} where
       (answer.replies ∙ ap (λ (r : R). Some r) same) (above answer.history answer.there)
       (sym (ap (λ (o : Option S). option_map_or (λ s. family.machine.in_range s op) o false) answer.starts) ∙ taken))
 
+module _ (m : Machines) (shown : Shown) (legal : IsLegalShown m shown) where
+  -- one more of these histories is legal, and the others are as they were
+  work-legal : (h : List (Entry WorkOp WorkReply)) → IsLegal m.work m.work_start h → IsLegalShown m (record shown { work = h })
+  work-legal h new = record { work = new; clock = legal.clock; table = legal.table; sems = legal.sems; msgqs = legal.msgqs; signals = legal.signals; chans = legal.chans; observers = legal.observers }
+
+  clock-legal : (h : List (Entry ClockOp ClockReply)) → IsLegal m.clock m.clock_start h → IsLegalShown m (record shown { clock = h })
+  clock-legal h new = record { work = legal.work; clock = new; table = legal.table; sems = legal.sems; msgqs = legal.msgqs; signals = legal.signals; chans = legal.chans; observers = legal.observers }
+
+  table-legal : (h : List (Entry TableOp TableReply)) → IsLegal m.table m.table_start h → IsLegalShown m (record shown { table = h })
+  table-legal h new = record { work = legal.work; clock = legal.clock; table = new; sems = legal.sems; msgqs = legal.msgqs; signals = legal.signals; chans = legal.chans; observers = legal.observers }
+
+  sems-legal : (h : List (List (Entry SemOp SemReply))) → EachLegal m.sems h → IsLegalShown m (record shown { sems = h })
+  sems-legal h new = record { work = legal.work; clock = legal.clock; table = legal.table; sems = new; msgqs = legal.msgqs; signals = legal.signals; chans = legal.chans; observers = legal.observers }
+
+  msgqs-legal : (h : List (List (Entry MsgqOp MsgqReply))) → EachLegal m.msgqs h → IsLegalShown m (record shown { msgqs = h })
+  msgqs-legal h new = record { work = legal.work; clock = legal.clock; table = legal.table; sems = legal.sems; msgqs = new; signals = legal.signals; chans = legal.chans; observers = legal.observers }
+
+  signals-legal : (h : List (List (Entry SignalOp SignalReply))) → EachLegal m.signals h → IsLegalShown m (record shown { signals = h })
+  signals-legal h new = record { work = legal.work; clock = legal.clock; table = legal.table; sems = legal.sems; msgqs = legal.msgqs; signals = new; chans = legal.chans; observers = legal.observers }
+
+  chans-legal : (h : List (List (Entry ChanOp ChanReply))) → EachLegal m.chans h → IsLegalShown m (record shown { chans = h })
+  chans-legal h new = record { work = legal.work; clock = legal.clock; table = legal.table; sems = legal.sems; msgqs = legal.msgqs; signals = legal.signals; chans = new; observers = legal.observers }
+
+  observers-legal : (h : List (List (Entry ObsOp ObsReply))) → EachLegal m.observers h → IsLegalShown m (record shown { observers = h })
+  observers-legal h new = record { work = legal.work; clock = legal.clock; table = legal.table; sems = legal.sems; msgqs = legal.msgqs; signals = legal.signals; chans = legal.chans; observers = new }
+
 -- a step that the machines answer keeps what is shown legal
-legal-after : (m : Machines) (shown : Shown) (who : Who) (number : ℕ) (step : Step) (reply : StepReply) → IsLegalShown m shown → reply_in m shown who step ≡ Some reply →
+pub legal-after : (m : Machines) (shown : Shown) (who : Who) (number : ℕ) (step : Step) (reply : StepReply) → IsLegalShown m shown → reply_in m shown who step ≡ Some reply →
     is_in_range m step ≡ true → IsLater shown who.number number → IsLegalShown m (shown_after shown who number step reply)
-legal-after m shown who number (steps.Work op) (step_replies.Work reply place) legal answered taken later Work =
+legal-after m shown who number (steps.Work op) (step_replies.Work reply place) legal answered taken later =
     let one = one-answer m.work m.work_start shown.work step_replies.Work who op (step_replies.Work reply place) answered in
     let same : one.0 ≡ reply = cc in
-    IsLegal-snoc m.work m.work_start shown.work (entry who number op reply) (legal Work) (one.1 ∙ ap Some same) (above-work shown who.number number later) taken
-legal-after m shown who number (steps.Work op) (step_replies.Work reply place) legal answered taken later other = legal other
-legal-after m shown who number (steps.Clock op) (step_replies.Clock reply place) legal answered taken later Clock =
+    work-legal m shown legal (shown.work ++ entry who number op reply ∷ [])
+    (IsLegal-snoc m.work m.work_start shown.work (entry who number op reply) legal.work (one.1 ∙ ap Some same) (above-work shown who.number number later) taken)
+legal-after m shown who number (steps.Clock op) (step_replies.Clock reply place) legal answered taken later =
     let one = one-answer m.clock m.clock_start shown.clock step_replies.Clock who op (step_replies.Clock reply place) answered in
     let same : one.0 ≡ reply = cc in
-    IsLegal-snoc m.clock m.clock_start shown.clock (entry who number op reply) (legal Clock) (one.1 ∙ ap Some same) (above-clock shown who.number number later) taken
-legal-after m shown who number (steps.Clock op) (step_replies.Clock reply place) legal answered taken later other = legal other
-legal-after m shown who number (steps.Table op) (step_replies.Table reply place) legal answered taken later Table =
+    clock-legal m shown legal (shown.clock ++ entry who number op reply ∷ [])
+    (IsLegal-snoc m.clock m.clock_start shown.clock (entry who number op reply) legal.clock (one.1 ∙ ap Some same) (above-clock shown who.number number later) taken)
+legal-after m shown who number (steps.Table op) (step_replies.Table reply place) legal answered taken later =
     let one = one-answer m.table m.table_start shown.table step_replies.Table who op (step_replies.Table reply place) answered in
     let same : one.0 ≡ reply = cc in
-    IsLegal-snoc m.table m.table_start shown.table (entry who number op reply) (legal Table) (one.1 ∙ ap Some same) (above-table shown who.number number later) taken
-legal-after m shown who number (steps.Table op) (step_replies.Table reply place) legal answered taken later other = legal other
-legal-after m shown who number (steps.Sem object op) (step_replies.Sem at reply place) legal answered taken later Sems =
+    table-legal m shown legal (shown.table ++ entry who number op reply ∷ [])
+    (IsLegal-snoc m.table m.table_start shown.table (entry who number op reply) legal.table (one.1 ∙ ap Some same) (above-table shown who.number number later) taken)
+legal-after m shown who number (steps.Sem object op) (step_replies.Sem at reply place) legal answered taken later =
     let one = one-of-many m.sems shown.sems step_replies.Sem who object op (step_replies.Sem at reply place) answered in
     let same : one.reply ≡ reply = let tells = one.tells in cc in
-    entry-legal m.sems shown.sems (step_replies.Sem object) who number object op (step_replies.Sem at reply place) reply one same (legal Sems) taken
-    (λ h there. above-sems shown who.number number object h there later)
-legal-after m shown who number (steps.Sem object op) (step_replies.Sem at reply place) legal answered taken later other = legal other
-legal-after m shown who number (steps.Msgq object op) (step_replies.Msgq at reply place) legal answered taken later Msgqs =
+    sems-legal m shown legal (with_entry shown.sems object (entry who number op reply))
+    (entry-legal m.sems shown.sems (step_replies.Sem object) who number object op (step_replies.Sem at reply place) reply one same legal.sems taken
+    (λ h there. above-sems shown who.number number object h there later))
+legal-after m shown who number (steps.Msgq object op) (step_replies.Msgq at reply place) legal answered taken later =
     let one = one-of-many m.msgqs shown.msgqs step_replies.Msgq who object op (step_replies.Msgq at reply place) answered in
     let same : one.reply ≡ reply = let tells = one.tells in cc in
-    entry-legal m.msgqs shown.msgqs (step_replies.Msgq object) who number object op (step_replies.Msgq at reply place) reply one same (legal Msgqs) taken
-    (λ h there. above-msgqs shown who.number number object h there later)
-legal-after m shown who number (steps.Msgq object op) (step_replies.Msgq at reply place) legal answered taken later other = legal other
-legal-after m shown who number (steps.Signal object op) (step_replies.Signal at reply place) legal answered taken later Signals =
+    msgqs-legal m shown legal (with_entry shown.msgqs object (entry who number op reply))
+    (entry-legal m.msgqs shown.msgqs (step_replies.Msgq object) who number object op (step_replies.Msgq at reply place) reply one same legal.msgqs taken
+    (λ h there. above-msgqs shown who.number number object h there later))
+legal-after m shown who number (steps.Signal object op) (step_replies.Signal at reply place) legal answered taken later =
     let one = one-of-many m.signals shown.signals step_replies.Signal who object op (step_replies.Signal at reply place) answered in
     let same : one.reply ≡ reply = let tells = one.tells in cc in
-    entry-legal m.signals shown.signals (step_replies.Signal object) who number object op (step_replies.Signal at reply place) reply one same (legal Signals) taken
-    (λ h there. above-signals shown who.number number object h there later)
-legal-after m shown who number (steps.Signal object op) (step_replies.Signal at reply place) legal answered taken later other = legal other
-legal-after m shown who number (steps.Chan object op) (step_replies.Chan at reply place) legal answered taken later Chans =
+    signals-legal m shown legal (with_entry shown.signals object (entry who number op reply))
+    (entry-legal m.signals shown.signals (step_replies.Signal object) who number object op (step_replies.Signal at reply place) reply one same legal.signals taken
+    (λ h there. above-signals shown who.number number object h there later))
+legal-after m shown who number (steps.Chan object op) (step_replies.Chan at reply place) legal answered taken later =
     let one = one-of-many m.chans shown.chans step_replies.Chan who object op (step_replies.Chan at reply place) answered in
     let same : one.reply ≡ reply = let tells = one.tells in cc in
-    entry-legal m.chans shown.chans (step_replies.Chan object) who number object op (step_replies.Chan at reply place) reply one same (legal Chans) taken
-    (λ h there. above-chans shown who.number number object h there later)
-legal-after m shown who number (steps.Chan object op) (step_replies.Chan at reply place) legal answered taken later other = legal other
-legal-after m shown who number (steps.Obs object op) (step_replies.Obs at reply place) legal answered taken later Observers =
+    chans-legal m shown legal (with_entry shown.chans object (entry who number op reply))
+    (entry-legal m.chans shown.chans (step_replies.Chan object) who number object op (step_replies.Chan at reply place) reply one same legal.chans taken
+    (λ h there. above-chans shown who.number number object h there later))
+legal-after m shown who number (steps.Obs object op) (step_replies.Obs at reply place) legal answered taken later =
     let one = one-of-many m.observers shown.observers step_replies.Obs who object op (step_replies.Obs at reply place) answered in
     let same : one.reply ≡ reply = let tells = one.tells in cc in
-    entry-legal m.observers shown.observers (step_replies.Obs object) who number object op (step_replies.Obs at reply place) reply one same (legal Observers) taken
-    (λ h there. above-observers shown who.number number object h there later)
-legal-after m shown who number (steps.Obs object op) (step_replies.Obs at reply place) legal answered taken later other = legal other
-legal-after m shown who number (steps.LookItem object) (step_replies.Flags flags at) legal answered taken later service = legal service
-legal-after m shown who number step reply legal answered taken later service = legal service
+    observers-legal m shown legal (with_entry shown.observers object (entry who number op reply))
+    (entry-legal m.observers shown.observers (step_replies.Obs object) who number object op (step_replies.Obs at reply place) reply one same legal.observers taken
+    (λ h there. above-observers shown who.number number object h there later))
+legal-after m shown who number (steps.LookItem object) (step_replies.Flags flags at) legal answered taken later =
+    record { work = legal.work; clock = legal.clock; table = legal.table; sems = legal.sems; msgqs = legal.msgqs; signals = legal.signals; chans = legal.chans; observers = legal.observers }
+legal-after m shown who number step reply legal answered taken later = legal
 
--- nothing done is legal
-legal-first : (s : Content) → IsLegalShown (machines_of s) (first s).shown
-legal-first s Work = IsLegal-nil (machines_of s).work (machines_of s).work_start
-legal-first s Clock = IsLegal-nil (machines_of s).clock (machines_of s).clock_start
-legal-first s Table = IsLegal-nil (machines_of s).table (machines_of s).table_start
-legal-first s Sems = none-legal sem_machine sem_start s.decls
-legal-first s Msgqs = none-legal msgq_machine msgq_start s.decls
-legal-first s Signals = none-legal signal_machine signal_start s.decls
-legal-first s Chans = none-legal chan_machine chan_start s.decls
-legal-first s Observers = none-legal obs_machine observer_start s.decls
-
--- all that a run of a valid scenario shows is legal
-pub run-legal : (s : Content) (w : World) → IsValid s → IsRun (machines_of s) s w → IsLegalShown (machines_of s) w.shown
-run-legal s w valid run =
-    let m = machines_of s in
-    let P : World → Type 0 = λ v. IsReady s v × IsLegalShown m v.shown in
-    (subst P (sym run.1)
-    (rounds-keep m s P (λ v p at made both unspent there choice.
-    let found = first_possible-is m v.shown at.who (attempts s at) made choice in (
-      ready-stepped m s v p at made refl both.0 there (none-passes (is_spent_at s) v.players p at unspent there) found,
-      legal-after m v.shown at.who (length at.spots) made.0 made.1 both.1 found.answered
-          (ahead-takes s m at valid refl (All-at (IsFit s) v.players p at both.0.fits there) made.0 (found.place, found.is_there))
-          (log-later at.who.number at.spots v.shown (both.0.shows p at there)),
-    )) run.0 (first s) (ready-first s valid, legal-first s))).1
+-- at first nothing was done, which is legal
+pub legal-first : (s : Content) → IsLegalShown (machines_of s) (nothing_shown s.decls)
+legal-first s = record {
+  work = IsLegal-nil (machines_of s).work (machines_of s).work_start;
+  clock = IsLegal-nil (machines_of s).clock (machines_of s).clock_start;
+  table = IsLegal-nil (machines_of s).table (machines_of s).table_start;
+  sems = none-legal sem_machine sem_start s.decls;
+  msgqs = none-legal msgq_machine msgq_start s.decls;
+  signals = none-legal signal_machine signal_start s.decls;
+  chans = none-legal chan_machine chan_start s.decls;
+  observers = none-legal obs_machine observer_start s.decls;
+}

@@ -1,4 +1,4 @@
--- The trace of a run is in form, where its numbers are within their types.
+-- The trace of a sound world is in form, where its numbers are within their types.
 use Rattle.std.proofs.Common.{◌≡◌, ℕ, zero, suc, ◌+◌, ◌<◌, true, Option, Some, None, List, [], ◌∷◌, length, map, take, All, refl, sym, ap, subst, ◌∙◌, arith}
 use Rattle.std.specs.List.{AllByRecursion, AllZip, range_with_len, slice_get}
 use Rattle.std.specs.Option.{option_map}
@@ -19,7 +19,6 @@ use Rattle.zk_model_work.specs.State.{State}
 use Rattle.zk_model_work.specs.Machine.{flags_of, work_machine}
 use Rattle.zk_scenario.specs.Content.{Content}
 use Rattle.zk_scenario.specs.Players.{players}
-use Rattle.zk_scenario.specs.Valid.{IsValid}
 use Rattle.zk_worker.specs.declared.answers.Answered.{Answered}
 use Rattle.zk_worker.specs.declared.log.Log.{Log}
 use Rattle.zk_worker.specs.declared.steps.Spot.{Spot}
@@ -30,10 +29,10 @@ use Rattle.zk_worker.specs.Machines.{work_start_of, item_of, machines_of, signal
 use Rattle.zk_worker.specs.Places.{PlayerPlace}
 use Rattle.zk_worker.specs.Right.{IsRight}
 use Rattle.zk_worker.proofs.Lists.{there-mapped}
+use Rattle.zk_trace.specs.declared.trace.Ending.{Ending}
 use Rattle.zk_trace.specs.declared.trace.Trace.{Trace}
 use Rattle.zk_trace.specs.AnswerRead.{IsAnswered}
 use Rattle.zk_trace.specs.Form.{AreOfKind, IsLog, IsInForm}
-use Rattle.zk_trace.proofs.LegalHistories.{IsLegalAt}
 use Rattle.zk_trace.specs.LookRead.{can_be_seen, FitsSignalLook}
 use Rattle.zk_trace.specs.Looked.{signal_looks_of}
 use Rattle.zk_trace.specs.Sized.{IsSizedAnswer, IsSizedLog, IsSizedSignalLook, IsSized}
@@ -43,13 +42,13 @@ use Rattle.zk_trace.proofs.LogAnswers.{AnswerSuits, ShownFits, LookHolds, answer
 use Rattle.zk_trace.proofs.LogSteps.{log-steps}
 use Rattle.zk_trace.proofs.LooksFit.{ItemLooksHold, item-looks-fit, SignalLooksHold, signal-looks-fit}
 use Rattle.zk_trace.proofs.WorkAnswers.{flags-below}
-use Rattle.zk_replay.specs.RoundRobin.{World, IsRun}
-use Rattle.zk_replay.specs.Ready.{IsReady}
-use Rattle.zk_replay.specs.Replay.{IsReplay, trace_of}
-use Rattle.zk_replay.proofs.EntriesFit.{LookFits, run-fitting}
-use Rattle.zk_replay.proofs.Lawful.{run-known, run-players, lawful}
-use Rattle.zk_replay.proofs.Legality.{run-legal, Signals}
-use Rattle.zk_replay.proofs.RunHistories.{histories-fit}
+use Rattle.zk_world.specs.Legal.{IsLegalAt}
+use Rattle.zk_world.specs.Requests.{LookFits}
+use Rattle.zk_world.specs.Sound.{IsSound}
+use Rattle.zk_world.specs.Traces.{world_trace}
+use Rattle.zk_world.specs.World.{World}
+use Rattle.zk_world.proofs.Histories.{histories-fit}
+use Rattle.zk_world.proofs.Lawful.{sound-lawful}
 
 -- What looks find.
 
@@ -86,25 +85,22 @@ answers-fit : (s : Content) (xs : List Answered) → AllByRecursion (AnswerSuits
 answers-fit s [] suit sized = tt
 answers-fit s (x ∷ xs) suit sized = (record { step = sized.0.step; answer = suit.0 sized.0.answer }, answers-fit s xs suit.1 sized.1)
 
-module _ (s : Content) (w : World) (valid : IsValid s) (run : IsRun (machines_of s) s w) (sized : IsSized (trace_of s w)) where
+module _ (s : Content) (ending : Ending) (w : World) (sound : IsSound s w) (sized : IsSized (world_trace s ending w)) where
   abbrev trace : Trace
-  trace = trace_of s w
+  trace = world_trace s ending w
 
   abbrev logs : List Log
   logs = map (log_of s) w.players
 
-  ready : IsReady s w
-  ready = (run-known s w valid run).0
-
   fits : ShownFits s.decls w.shown
-  fits = histories-fit s w valid run sized
+  fits = histories-fit s ending w sound sized
 
   -- a step of a log is right, and names what is declared
   right : (number : ℕ) (at : PlayerPlace) (k : ℕ) (spot : Spot) → slice_get w.players number ≡ Some at → slice_get at.spots k ≡ Some spot →
       LookFits s.decls spot × IsRight (machines_of s) w.shown spot
   right number at k spot there here = (
-    All-at (LookFits s.decls) at.spots k spot (All-at (λ (a : PlayerPlace). All (LookFits s.decls) a.spots) w.players number at (run-fitting s w valid run).looks there) here,
-    (ready.looks number at there).each k spot here,
+    All-at (LookFits s.decls) at.spots k spot (All-at (λ (a : PlayerPlace). All (LookFits s.decls) a.spots) w.players number at sound.fitting.looks there) here,
+    (sound.ready.looks number at there).each k spot here,
   )
 
   -- and of the log's player
@@ -113,12 +109,12 @@ module _ (s : Content) (w : World) (valid : IsValid s) (run : IsRun (machines_of
   step-there number log k spot there here =
       let found = there-mapped (log_of s) w.players number log there in
       let both = right number found.0 k spot found.1 (ap (λ (l : Log). slice_get l.steps k) found.2 ∙ here) in
-      (omega (arith, slice_get_within w.players number found.0 found.1, run-players s w run), both.0, both.1)
+      (omega (arith, slice_get_within w.players number found.0 found.1, sound.as_many), both.0, both.1)
 
   -- a look at a signal finds what a write left
   left : (object : ℕ) (seen : Seen) → IsRight (machines_of s) w.shown (spots.LookSignal object seen) → can_be_seen seen ≡ true
   left object seen is =
-      let value : value_at (writes_of is.0) seen.stamp ≡ seen = subst (λ (looks : Option (List (List Seen))). IsKnown (looks_at looks object) is.0 seen) ready.whole is.3 in
+      let value : value_at (writes_of is.0) seen.stamp ≡ seen = subst (λ (looks : Option (List (List Seen))). IsKnown (looks_at looks object) is.0 seen) sound.ready.whole is.3 in
       subst (λ (found : Seen). can_be_seen found ≡ true) value (left-can-be seen.stamp (write_of (writes_of is.0) seen.stamp))
 
   -- the looks of a log that are right are so
@@ -138,7 +134,7 @@ module _ (s : Content) (w : World) (valid : IsValid s) (run : IsRun (machines_of
       (found.0, found.1, look-holds (spots.LookSignal object seen) found.2)
 
   many : length w.shown.signals ≡ length s.decls
-  many = as-many signal_machine signal_start s.decls w.shown.signals (run-legal s w valid run Signals)
+  many = as-many signal_machine signal_start s.decls w.shown.signals sound.legal.signals
 
   -- the log of a player
   log-fits : (number : ℕ) (log : Log) → slice_get logs number ≡ Some log → IsLog s.decls (stood trace) number log
@@ -146,9 +142,9 @@ module _ (s : Content) (w : World) (valid : IsValid s) (run : IsRun (machines_of
       let found = there-mapped (log_of s) w.players number log there in
       let hold : AllByRecursion (AnswerSuits s) found.0.answers =
       recursion_from_All (AnswerSuits s) found.0.answers (answers-hold s number w.shown found.0 fits
-      (All-from_recursion LookHolds found.0.spots (all-there LookHolds found.0.spots (λ k spot here. look-holds spot (right number found.0 k spot found.1 here).1))) (ready.follow number found.0 found.1)) in
+      (All-from_recursion LookHolds found.0.spots (all-there LookHolds found.0.spots (λ k spot here. look-holds spot (right number found.0 k spot found.1 here).1))) (sound.ready.follow number found.0 found.1)) in
       record {
-        steps = sym (log-steps s trace (lawful s trace valid (w, run, refl)).place
+        steps = sym (log-steps s trace (sound-lawful s ending w sound).place
             (λ number log k object seen there here. let is = (step-there number log k (spots.LookSignal object seen) there here).2 in slice_get_within w.shown.signals object is.0 is.1)
             number log there);
         answers = answers-fit s log.answers (subst (λ (l : Log). AllByRecursion (AnswerSuits s) l.answers) found.2 hold)
@@ -156,8 +152,8 @@ module _ (s : Content) (w : World) (valid : IsValid s) (run : IsRun (machines_of
       }
 
   -- the trace is in form
-  pub run-in-form : IsInForm s trace
-  run-in-form = record {
+  pub sound-in-form : IsInForm s trace
+  sound-in-form = record {
     work = fits.work;
     clock = fits.clock;
     table = fits.table;
@@ -169,11 +165,6 @@ module _ (s : Content) (w : World) (valid : IsValid s) (run : IsRun (machines_of
     item_looks = item-looks-fit s.decls logs item-looks-hold sized.item_looks;
     signal_looks = subst (λ (n : ℕ). AreOfKind is_signal (AllFit (FitsSignalLook s.decls) None) s.decls (signal_looks_of n logs)) (sym many)
         (signal-looks-fit s.decls logs signal-looks-hold (subst (λ (n : ℕ). All (All IsSizedSignalLook) (signal_looks_of n logs)) many sized.signal_looks));
-    logs = each-placed (IsLog s.decls (stood trace)) logs 0 (length (players s.decls)) (lawful s trace valid (w, run, refl)).log.logged
+    logs = each-placed (IsLog s.decls (stood trace)) logs 0 (length (players s.decls)) (sound-lawful s ending w sound).log.logged
         (λ k log there. subst (λ (n : ℕ). IsLog s.decls (stood trace) n log) (omega arith) (log-fits k log there));
   }
-
--- the trace of the round robin run of a valid scenario is in form, where its numbers are within their types
-pub in-form : (s : Content) (t : Trace) → IsValid s → IsReplay s t → IsSized t → IsInForm s t
-in-form s t valid replayed sized =
-    subst (λ (x : Trace). IsInForm s x) (sym replayed.2) (run-in-form s replayed.0 valid replayed.1 (subst IsSized replayed.2 sized))

@@ -40,7 +40,7 @@ use Rattle.zk_trace.specs.Chan as chan
 use Rattle.zk_trace.specs.ChanRead as chan_read
 use Rattle.zk_trace.specs.Obs as obs
 use Rattle.zk_trace.specs.ObsRead as obs_read
-use Rattle.zk_replay.proofs.AheadSays.{SaysFit}
+use Rattle.zk_world.specs.Says.{SaysFit}
 
 -- what is there has a number of an object
 pub is_at-below : (test : Decl → Bool) (decls : List Decl) (object : ℕ) → is_at test decls object ≡ true → IsObject decls object

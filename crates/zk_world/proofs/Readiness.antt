@@ -1,11 +1,9 @@
--- What a run keeps in each turn.
+-- What a step keeps of a world in which each player can go on.
 use Rattle.std.proofs.Common.{◌≡◌, ◌≢◌, ◌⊎◌, ℕ, ◌+◌, ◌*◌, ◌<◌, ◌≤◌, true, false, Option, Some, List, [], All, ◌∷◌, ◌++◌, length, map, set, inl, inr, refl, sym, ap, subst, ◌∙◌, arith, length-append}
 use Rattle.std.specs.List.{slice_get, sum_by}
 use Rattle.std.proofs.lemmas.Bool.Decides.{nat_tests}
 use Rattle.std.proofs.lemmas.List.{length-set, length-map}
-use Rattle.std.proofs.lemmas.List.Sums.{sum_by-le}
 use Rattle.std.proofs.lemmas.List.Elements.{All-set, All-map, All-weaker}
-use Rattle.zk_base.specs.Limits.{most_entries}
 use Rattle.zk_base.proofs.Lists.{All-at}
 use Rattle.zk_base.specs.declared.ids.Who.{Who}
 use Rattle.zk_scenario.specs.Content.{Content}
@@ -26,7 +24,6 @@ use Rattle.zk_worker.specs.Right.{LooksRight}
 use Rattle.zk_worker.specs.Shown.{Shown, shown_after, ShowsLog, AreShort}
 use Rattle.zk_worker.specs.declared.steps.Spot.{Spot}
 use Rattle.zk_worker.proofs.CheckedSteps.{after-spots}
-use Rattle.zk_worker.proofs.Families.{each-short}
 use Rattle.zk_worker.proofs.FitsStill.{after-fits}
 use Rattle.zk_worker.proofs.PassedChecks.{replied-passes}
 use Rattle.zk_worker.proofs.Replied.{replied-fits}
@@ -35,9 +32,10 @@ use Rattle.zk_worker.proofs.Looking.{looks-stepped, looks-others, reads-whole}
 use Rattle.zk_worker.proofs.Following.{following-still, following-more}
 use Rattle.zk_worker.proofs.Lists.{slice_get-set, sum-set}
 use Rattle.zk_services.specs.Looks as looks
-use Rattle.zk_replay.specs.RoundRobin.{World, stepped}
-use Rattle.zk_replay.specs.Ready.{IsReady, left, all_left}
-use Rattle.zk_replay.proofs.StillRounds.{IsChosen}
+use Rattle.zk_world.specs.Chosen.{IsChosen}
+use Rattle.zk_world.specs.Ready.{IsReady, left, all_left, most_shown}
+use Rattle.zk_world.specs.World.{World, stepped}
+use Rattle.zk_world.proofs.Within.{within-more, within-after, short-within}
 
 -- players that make no more steps than those of their scenario make no more than any may
 few-steps : (s : Content) (players : List PlayerPlace) → All (λ at. length at.spots ≤ steps_of s) players → All (λ at. length at.spots ≤ MOST_STEPS) players
@@ -45,19 +43,7 @@ few-steps s players = All-weaker (λ at. length at.spots ≤ steps_of s) (λ at.
 
 -- each history is shorter than a history may be
 pub short-shown : (s : Content) (w : World) → IsReady s w → AreShort w.shown
-short-shown s w ready =
-    let count : PlayerPlace → ℕ = λ at. length at.spots in
-    let most : sum_by count w.players ≤ length w.players * MOST_STEPS = sum_by-le count MOST_STEPS w.players (few-steps s w.players ready.short) in
-    record {
-      work = omega (arith, ready.few, ready.counted, most);
-      clock = omega (arith, ready.few, ready.counted, most);
-      table = omega (arith, ready.few, ready.counted, most);
-      sems = each-short w.shown.sems most_entries (omega (arith, ready.few, ready.counted, most));
-      msgqs = each-short w.shown.msgqs most_entries (omega (arith, ready.few, ready.counted, most));
-      signals = each-short w.shown.signals most_entries (omega (arith, ready.few, ready.counted, most));
-      chans = each-short w.shown.chans most_entries (omega (arith, ready.few, ready.counted, most));
-      observers = each-short w.shown.observers most_entries (omega (arith, ready.few, ready.counted, most));
-    }
+short-shown s w ready = short-within w.shown w.players ready.few (few-steps s w.players ready.short) ready.within
 
 unspent-short : (s : Content) (at : PlayerPlace) → is_spent_at s at ≡ false → length at.spots < steps_of s
 unspent-short s at is = grind (arith, nat_tests)
@@ -142,7 +128,6 @@ pub ready-stepped : (m : Machines) (s : Content) (w : World) (p : ℕ) (at : Pla
 ready-stepped m s w p at made same ready is unspent found =
     let at' = after s at made.0 made.1 in
     let more = after-one s at made.0 made.1 in
-    let long = (made-more m w.shown at.who (length at.spots) made.0 made.1 found.answered).count in
     let count : PlayerPlace → ℕ = λ at. length at.spots in
     let Short : PlayerPlace → Type 0 = λ at. length at.spots ≤ steps_of s in
     let told = replied-fits s m w.shown at.who made.0 made.1 ready.valid same found.answered in
@@ -154,7 +139,9 @@ ready-stepped m s w p at made same ready is unspent found =
       shows = shows-after m s w p at made.0 made.1 ready is found.answered;
       looks = looks-after m s w p at made.0 made.1 same ready is found.answered;
       short = All-set Short w.players p at' (omega (arith, more.count, unspent-short s at unspent)) ready.short;
-      counted = omega (arith, long, ready.counted, sum-set count w.players p at at' is, more.count);
+      within = within-more (shown_after w.shown at.who (length at.spots) made.0 made.1) (most_shown w.players + 1) (most_shown (set w.players p at'))
+          (omega (arith, length-set w.players p at', sum-set count w.players p at at' is, more.count))
+          (within-after w.shown (most_shown w.players) at.who (length at.spots) made.0 made.1 ready.within);
       whole = whole-after w.shown at.who (length at.spots) made.0 made.1 ready.whole;
       unlooked = unlooked-after w.shown at.who (length at.spots) made.0 made.1 ready.unlooked;
       follow = follow-after m s w p at made ready is found;
@@ -169,7 +156,7 @@ left-stepped s w p at made is unspent =
     let at' = after s at made.0 made.1 in
     omega (arith, sum-set (left s) w.players p at at' is, (after-one s at made.0 made.1).count, unspent-short s at unspent)
 
--- the logs of the players of a run are short
+-- the logs of the players are short
 pub logs-short : (s : Content) (w : World) → IsReady s w → looks.AreShort (map (log_of s) w.players)
 logs-short s w ready = record {
   few = omega (arith, ready.few, length-map w.players (log_of s));
