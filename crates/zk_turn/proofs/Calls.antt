@@ -1,10 +1,17 @@
 -- Steps of a player's own entries and of the whole history.
-use Rattle.std.proofs.Common.{◌≡◌, ℕ, ◌+◌, ◌<◌, Bool, true, false, ◌||◌, cond, List, [], ◌∷◌, ◌++◌, All, refl, sym, ap, subst, arith, eq-eqb}
+use Rattle.std.proofs.Common.{◌≡◌, ℕ, ◌+◌, ◌<◌, ◌≤◌, Bool, true, false, ◌||◌, cond, Option, Some, None, Result, Ok, Err, List, [], ◌∷◌, ◌++◌, All, refl, sym, ap, subst, arith, eq-eqb}
 use Rattle.std.proofs.lemmas.List.Elements.{All-nil, All-cons, All-head, All-tail, All-append, All-weaker, All-filter}
 use Rattle.zk_base.specs.declared.ids.Who.{Who}
 use Rattle.zk_base.specs.declared.ids.Entry.{Entry}
 use Rattle.zk_base.specs.History.{entry, IsAbove}
+use Rattle.zk_turn.specs.Calls.{entries_made}
 use Rattle.zk_turn.specs.Players.{is_by, own}
+
+-- an answer comes with one entry at most
+pub entries_made-few : {A E : Type 0} (answer : Result (Option A) E) → entries_made answer ≤ 1
+entries_made-few (Ok (Some made)) = omega arith
+entries_made-few (Ok None) = omega arith
+entries_made-few (Err e) = omega arith
 
 module _ {O R : Type 0} where
   -- a step above those of the player's own entries is above those of its entries in the whole history

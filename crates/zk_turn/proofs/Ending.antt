@@ -1,5 +1,5 @@
 -- The rule at the end of a cell, where one seat stands for all players.
-use Rattle.std.proofs.Common.{◌≡◌, ◌≢◌, ⊎_elim, ℕ, ◌≤◌, true, false, Some, Option, List, [], ◌∷◌, length, All, refl, sym, ap, subst, ◌∙◌, arith}
+use Rattle.std.proofs.Common.{◌≡◌, ◌≢◌, ⊎_elim, ℕ, ◌*◌, ◌≤◌, true, false, Some, Option, List, [], ◌∷◌, length, All, refl, sym, ap, subst, ◌∙◌, arith}
 use Rattle.std.proofs.lemmas.List.Elements.{All-weaker}
 use mathlib.Core.Option.{some, some-injective}
 use native.Mathlib.Decide.{ℕ_discrete}
@@ -10,11 +10,11 @@ use Rattle.zk_base.specs.declared.ids.Entry.{Entry}
 use Rattle.zk_turn.specs.declared.views.Stage.{Stage}
 use Rattle.zk_turn.specs.declared.views.Stage.TheVariants.{Idle, Waiting, Holding}
 use Rattle.zk_turn.specs.declared.views.View.{View}
-use Rattle.zk_turn.specs.Players.{has, is_by, own}
-use Rattle.zk_turn.specs.Turn.{ticket_count, HoldsTurn, IsCovered, player_count, IsHome, Turn}
+use Rattle.zk_turn.specs.Players.{has, is_by, own, room_of_a_pass}
+use Rattle.zk_turn.specs.Turn.{ticket_count, HoldsTurn, IsCovered, player_count, made_of, IsHome, Turn}
 use Rattle.zk_turn.specs.Steps.{Fits}
 use Rattle.zk_turn.proofs.Players.{own-all, GoesOn-all}
-use Rattle.zk_turn.proofs.Seats.{at-same, sum-two}
+use Rattle.zk_turn.proofs.Seats.{at-same, sum-times, sum-two}
 
 -- a seat without a ticket doesn't hold the turn
 ticketless : (st : Stage) → ticket_count st ≤ 0 → HoldsTurn st → ⊥
@@ -28,16 +28,17 @@ has-nobody (w ∷ ws) number none = absurd (omega arith)
 
 module _ {S O R T : Type 0} (legal : T → List (Entry O R) → Type 0) (fits : S → T → List (Entry O R) → Type 0) where
   -- what comes back: the service that the slot has, with the history that the last seat has seen, all of which its players made
-  pub record ComesBack (origin : T) (v : View O R T) (slot : Option S) : Type 0 where
+  pub record ComesBack (origin : T) (count : ℕ) (v : View O R T) (slot : Option S) : Type 0 where
     pub service : S
     pub there : slot ≡ Some service
     pub fit : fits service origin v.seen
     pub lawful : legal origin v.seen
     pub mine : own v.players v.seen ≡ v.seen
+    pub short : length v.seen ≤ room_of_a_pass * count
 
   ends : (origin : T) (count id : ℕ) (v : View O R T) (s : State (Option S) (View O R T)) (slot : Option S) →
       Turn legal fits origin count s → get_elem? s.views id ≡ some v → v.stage ≡ Idle → length v.players ≡ count →
-      ((x : Option S) → get_elem? s.homes 0 ≡ some (some x) → slot ≡ x) → ComesBack origin v slot
+      ((x : Option S) → get_elem? s.homes 0 ≡ some (some x) → slot ≡ x) → ComesBack origin count v slot
   ends origin count id v s slot r at idle all same =
       ⊎_elim ended (λ one. absurd (nobody one.place one.view one.there one.holds)) r.place where
         no_player : (j : ℕ) (u : View O R T) → j ≢ id → get_elem? s.views j ≡ some u → length u.players ≡ 0
@@ -68,33 +69,42 @@ module _ {S O R T : Type 0} (legal : T → List (Entry O R) → Type 0) (fits : 
         history_is : r.history ≡ v.seen
         history_is = GoesOn-all v.players v.seen r.history (r.each id v at).seen all_mine
 
-        ended : IsHome legal fits origin r.history s → ComesBack origin v slot
+        few : length r.history ≤ room_of_a_pass * count
+        few =
+            let most = sum-times room_of_a_pass made_of player_count s.views (λ j u there. (r.each j u there).room) in
+            let made = r.made in
+            let times = ap (λ n. room_of_a_pass * n) r.players in omega arith
+
+        ended : IsHome legal fits origin r.history s → ComesBack origin count v slot
         ended home = record {
           service = home.service;
           there = same (Some home.service) home.there;
           fit = subst (λ l. fits home.service origin l) history_is home.fit;
           lawful = subst (λ l. legal origin l) history_is r.lawful;
           mine = subst (λ l. own v.players l ≡ l) history_is (own-all v.players r.history all_mine);
+          short = subst (λ (l : List (Entry O R)). length l ≤ room_of_a_pass * count) history_is few;
         }
 
   pub comes_back : (origin : T) (count id : ℕ) (v : View O R T) (words : List ℕ) (slots : List (Option S))
       (slot : Option S) → v.stage ≡ Idle → length v.players ≡ count →
-      Final (Seen (Turn legal fits origin count) id v) words slots → get_elem? slots 0 ≡ some slot → ComesBack origin v slot
+      Final (Seen (Turn legal fits origin count) id v) words slots → get_elem? slots 0 ≡ some slot → ComesBack origin count v slot
   comes_back origin count id v words slots slot idle all last there =
       ends origin count id v last.0 slot last.1.0 last.1.1 idle all (λ x home. some-injective slot x (sym there
       ∙ last.4 0 x home))
 
 -- what that says of the service which was taken out
 pub record IsTheService {S O R T : Type 0} (legal : T → List (Entry O R) → Type 0) (start : S → T)
-    (history : S → List (Entry O R)) (origin : T) (v : View O R T) (service : S) : Type 0 where
+    (history : S → List (Entry O R)) (origin : T) (count : ℕ) (v : View O R T) (service : S) : Type 0 where
   pub is_seen : history service ≡ v.seen
   pub is_start : start service ≡ origin
   pub lawful : legal (start service) (history service)
+  pub short : length (history service) ≤ room_of_a_pass * count
 
 pub service_back : {S O R T : Type 0} (legal : T → List (Entry O R) → Type 0) (start : S → T)
-    (history : S → List (Entry O R)) (origin : T) (v : View O R T) (slot : Option S) (service : S) →
-    ComesBack legal (Fits start history) origin v slot → slot ≡ Some service → IsTheService legal start history origin v service
-service_back {S} {O} {R} {T} legal start history origin v slot service back is =
+    (history : S → List (Entry O R)) (origin : T) (count : ℕ) (v : View O R T) (slot : Option S) (service : S) →
+    ComesBack legal (Fits start history) origin count v slot → slot ≡ Some service →
+    IsTheService legal start history origin count v service
+service_back {S} {O} {R} {T} legal start history origin count v slot service back is =
     let same : back.service ≡ service = same_value (sym back.there ∙ is) in
     let fit = subst (λ (x : S). Fits start history x origin v.seen) same back.fit in
     record {
@@ -102,6 +112,7 @@ service_back {S} {O} {R} {T} legal start history origin v slot service back is =
       is_start = fit.start;
       lawful = subst (λ (s : T). legal s (history service)) (sym fit.start)
           (subst (λ (l : List (Entry O R)). legal origin l) (sym fit.history) back.lawful);
+      short = subst (λ (l : List (Entry O R)). length l ≤ room_of_a_pass * count) (sym fit.history) back.short;
     }
   where
     same_value : Some back.service ≡ Some service → back.service ≡ service
@@ -112,7 +123,7 @@ pub service_ends : {S O R T : Type 0} (legal : T → List (Entry O R) → Type 0
     (history : S → List (Entry O R)) (origin : T) (count id : ℕ) (v : View O R T) (words : List ℕ)
     (slots : List (Option S)) (slot : Option S) (service : S) → v.stage ≡ Idle → length v.players ≡ count →
     Final (Seen (Turn legal (Fits start history) origin count) id v) words slots → get_elem? slots 0 ≡ some slot →
-    slot ≡ Some service → IsTheService legal start history origin v service
+    slot ≡ Some service → IsTheService legal start history origin count v service
 service_ends legal start history origin count id v words slots slot service idle all last there is =
-    service_back legal start history origin v slot service
+    service_back legal start history origin count v slot service
     (comes_back legal (Fits start history) origin count id v words slots slot idle all last there) is

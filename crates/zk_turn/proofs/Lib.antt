@@ -1,4 +1,4 @@
-mod Calls
+pub mod Calls
 pub mod Dealing
 mod Ending
 mod Joining

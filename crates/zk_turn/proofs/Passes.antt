@@ -90,7 +90,7 @@ module _ {S O R T : Type 0} where
       seat.table_id ≡ p.seat.table_id → seat.me ≡ in_turn p.seat.me.0 drawn t history →
       ((o : T) → p.seat.me.0.start ≡ Some o → Fits start history_of x o history × legal o history) →
       length history ≤ room_of_a_pass * 256 → x ≡ y →
-      IsHeldOf legal start history_of c record { seat = seat; service = y; who = p.who; room = p.room; added = false }
+      IsHeldOf legal start history_of c record { seat = seat; service = y; who = p.who; room = p.room; added = false; looked = false }
   held_now legal start history_of c p seat x y drawn t history of_cell some table knows told short same =
       let v = p.seat.me.0 in
       let fits = told (start (given_to c)) of_cell.start in
@@ -101,6 +101,7 @@ module _ {S O R T : Type 0} where
         who = p.who;
         room = p.room;
         added = false;
+        looked = false;
       } = record {
         holds = (t, refl);
         slots = refl;
@@ -121,6 +122,7 @@ module _ {S O R T : Type 0} where
           who = p.who;
           room = p.room;
           added = false;
+          looked = false;
         }) (sym knows) now;
         same_start = fits_y.start;
       }
@@ -293,7 +295,7 @@ module _ {S O R T : Type 0} where
       IsAbove (history_of h.service) h.who.number step → m.in_range (start h.service) op ≡ true →
       m.reply_of (state_after m (start h.service) (history_of h.service)) h.who op ≡ Some reply →
       history_of x ≡ history_of h.service ++ entry h.who step op reply ∷ [] → start x ≡ start h.service →
-      IsHeld (IsLegal m) start history_of record { seat = h.seat; service = x; who = h.who; room = h.room - 1; added = true }
+      IsHeld (IsLegal m) start history_of record { seat = h.seat; service = x; who = h.who; room = h.room - 1; added = true; looked = h.looked }
   acted_now m start history_of h x step op reply held fresh alone later range gives grew same =
       let e = entry h.who step op reply in
       let was = subst (λ b. HasAdded b h.seat.me.0.players h.seat.me.0.seen (history_of h.service)) fresh held.added in

@@ -6,6 +6,12 @@ use Rattle.zk_base.specs.History.{entry}
 use Rattle.zk_base.specs.Legal.{Machine, state_after}
 use Rattle.zk_turn.specs.Players.{GoesOn}
 
+-- how many entries an answer comes with: one where there is a reply
+abbrev pub entries_made : {A E : Type 0} → Result (Option A) E → ℕ
+entries_made (Ok (Some made)) = 1
+entries_made (Ok None) = 0
+entries_made (Err e) = 0
+
 module _ {S O R : Type 0} (m : Machine S O R) (start : S) (who : Who) (step : ℕ) (op : O) where
   -- an entry was made: at what was found, which goes on from what was seen with entries of others, the machine gives the
   -- reply, and the entry comes there

@@ -69,6 +69,10 @@ module _ {S O R T : Type 0} where
   abbrev pub has_added : Held S O R T → Bool
   has_added h = h.added
 
+  -- it has made its look
+  abbrev pub has_looked : Held S O R T → Bool
+  has_looked h = h.looked
+
   -- the service that is held
   abbrev pub service_of : Held S O R T → S
   service_of h = h.service
@@ -111,10 +115,11 @@ module _ {S O R T : Type 0} where
     pub view : h.seat.me.0 ≡ g.seat.me.0
     pub who : h.who ≡ g.who
 
-  -- no entry was added, and the room is as it was
+  -- no entry was added and no look was made, and the room is as it was
   pub record IsUnspent (g h : Held S O R T) : Type 0 where
     pub added : h.added ≡ false
     pub room : h.room ≡ g.room
+    pub looked : h.looked ≡ g.looked
 
   -- an entry was added, and the room is less by one
   pub record IsSpent (g h : Held S O R T) : Type 0 where

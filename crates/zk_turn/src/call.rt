@@ -1,7 +1,7 @@
 ghost use Rattle.std.specs.Prelude.{◌≡◌, ◌+◌, ◌≤◌, ◌<◌, true, [], ◌∷◌};
 ghost use Rattle.zk_base.specs.History.{IsAbove};
 ghost use Rattle.zk_base.specs.Legal.{IsLegal};
-ghost use Rattle.zk_turn.specs.Calls.{HasCalled};
+ghost use Rattle.zk_turn.specs.Calls.{HasCalled, entries_made};
 ghost use Rattle.zk_turn.specs.Passes.{IsPassOf, pass_players, pass_who, pass_seen, pass_mine, pass_holds, pass_room, given_to};
 
 use crate::cell::Cell;
@@ -13,6 +13,7 @@ impl<S: Service> Cell<S> {
     /// One call by a turn of its own: waits for the turn, makes the call, and gives the turn back.
     ///
     /// The answer has the reply and the place of the entry in the history; `None` says that the operation isn't possible.
+    /// Only an entry takes room of the pass, so whoever is refused may ask as often as it likes.
     pub fn call<R: Wait>(
         &self,
         rt: &R,
@@ -29,7 +30,7 @@ impl<S: Service> Cell<S> {
         ensures players { pass_players result.0 ≡ pass_players pass }
         ensures who { pass_who result.0 ≡ pass_who pass }
         ensures holds { pass_holds result.0 ≡ pass_holds pass + 1 }
-        ensures room { pass_room pass ≤ pass_room result.0 + 1 }
+        ensures room { pass_room result.0 + entries_made result.1 ≡ pass_room pass }
         ensures called { HasCalled S.machine (S.start (given_to self.now)) (pass_who pass) step op
             (pass_seen pass) (pass_seen result.0) result.1 }
         ensures later { IsAbove (pass_mine result.0) (pass_who pass).number (step + 1) }

@@ -1,6 +1,6 @@
-ghost use Rattle.std.specs.Prelude.{◌≡◌, ◌+◌, ◌++◌, length};
+ghost use Rattle.std.specs.Prelude.{◌≡◌, ◌+◌, ◌*◌, ◌≤◌, ◌++◌, length};
 ghost use Rattle.zk_base.specs.Legal.{IsLegal};
-ghost use Rattle.zk_turn.specs.Players.{GoesOn, longer};
+ghost use Rattle.zk_turn.specs.Players.{GoesOn, longer, room_of_a_pass};
 ghost use Rattle.zk_turn.specs.Passes.{IsPassOf, pass_players, pass_who, pass_seen, pass_mine, pass_holds, pass_room, given_to, players_in};
 
 use crate::cell::Cell;
@@ -46,6 +46,7 @@ impl<S: Service> Cell<S> {
         // The history is what the pass has seen, and all of it was made by its players.
         ensures history { S.history result ≡ pass_seen pass }
         ensures mine { pass_mine pass ≡ pass_seen pass }
+        ensures short { length (S.history result) ≤ room_of_a_pass * length (players_in self) }
         ensures start { S.start result ≡ S.start (given_to self) }
         ensures legal { IsLegal S.machine (S.start result) (S.history result) }
     {

@@ -2,7 +2,7 @@ ghost use Rattle.std.specs.Prelude.{◌≡◌, ◌+◌, ◌≤◌, ◌<◌, true
 ghost use Rattle.zk_base.specs.History.{IsAbove, AddsNone, extended};
 ghost use Rattle.zk_base.specs.Legal.{IsLegal, state_after};
 ghost use Rattle.zk_base.specs.Touched.{LeavesOthers};
-ghost use Rattle.zk_turn.specs.Passes.{IsHeld, IsSameTurn, Spends, service_of, held_players, held_who, has_added};
+ghost use Rattle.zk_turn.specs.Passes.{IsHeld, IsSameTurn, Spends, service_of, held_players, held_who, held_room, has_added, has_looked};
 
 use crate::views::View;
 use atomic_table::Seat;
@@ -15,15 +15,18 @@ pub struct Held<S: Service> {
     pub(crate) who: Who,
     pub(crate) room: u64,
     pub(crate) added: bool,
+    pub(crate) looked: bool,
 }
 
 impl<S: Service> Held<S> {
     /// Makes one entry for the player of the pass, or says that the machine doesn't let it stand: `Service::act`.
     ///
-    /// A turn adds one entry at most. After `None` or want of memory another operation may be tried in the same turn.
+    /// A turn adds one entry at most, and none once its look is made. After `None` or want of memory another operation
+    /// may be tried in the same turn.
     pub fn act(&mut self, step: u32, op: S::Op) -> Result<Option<S::Reply>, NoMemory>
         requires held { IsHeld (IsLegal S.machine) S.start S.history self.old }
         requires fresh { has_added self.old ≡ false }
+        requires unlooked { has_looked self.old ≡ false }
         requires alone { held_players self.old ≡ held_who self.old ∷ [] }
         requires later { IsAbove (S.history (service_of self.old)) (held_who self.old).number step }
         requires range { S.machine.in_range (S.start (service_of self.old)) op ≡ true }
@@ -59,6 +62,39 @@ impl<S: Service> Held<S> {
             }
             other => other,
         }
+    }
+
+    /// The look of a turn: the word of this index, which the service publishes for looks.
+    ///
+    /// A turn has one look or one entry, and a look takes no room of the pass. After an attempt that was refused, a
+    /// look may be made in the same turn.
+    pub fn word(&mut self, index: u32) -> u32
+        requires held { IsHeld (IsLegal S.machine) S.start S.history self.old }
+        requires fresh { has_added self.old ≡ false }
+        requires unlooked { has_looked self.old ≡ false }
+
+        // It is the same turn, without an entry, and its look is made.
+        ensures held { IsHeld (IsLegal S.machine) S.start S.history self.new }
+        ensures turn { IsSameTurn self.old self.new }
+        ensures service { service_of self.new ≡ service_of self.old }
+        ensures room { held_room self.new ≡ held_room self.old }
+        ensures added { has_added self.new ≡ false }
+        ensures looked { has_looked self.new ≡ true }
+
+        // The word is that of the state after all entries.
+        ensures word { result ≡ S.word
+            (state_after S.machine (S.start (service_of self.old)) (S.history (service_of self.old))) index }
+        ensures small { index < S.WORDS → result < 65536 }
+    {
+        self.looked = true;
+        self.service.word(index)
+    }
+
+    /// The service that is held, to be read alone.
+    pub fn service(&self) -> &S
+        ensures { result.now ≡ service_of self.now }
+    {
+        &self.service
     }
 
     /// How many entries the history has, with the one of this turn.

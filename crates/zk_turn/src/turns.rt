@@ -5,7 +5,7 @@ ghost use Rattle.zk_turn.specs.declared.views.Stage.TheVariants.{Idle, Waiting};
 ghost use Rattle.zk_turn.specs.Players.{GoesOn, own};
 ghost use Rattle.zk_turn.specs.Views.{staged};
 ghost use Rattle.zk_turn.specs.Steps.{Took, Fits};
-ghost use Rattle.zk_turn.specs.Passes.{IsPassOf, IsHeldOf, IsReady, IsPublished, MayPass, pass_players, pass_who, pass_seen, pass_mine, pass_holds, pass_room, held_players, held_who, held_room, held_holds, has_added, service_of};
+ghost use Rattle.zk_turn.specs.Passes.{IsPassOf, IsHeldOf, IsReady, IsPublished, MayPass, pass_players, pass_who, pass_seen, pass_mine, pass_holds, pass_room, held_players, held_who, held_room, held_holds, has_added, has_looked, service_of};
 
 use crate::cell::Cell;
 use crate::held::Held;
@@ -35,13 +35,14 @@ impl<S: Service> Cell<S> {
         requires own { IsPassOf (IsLegal S.machine) S.start self.now pass }
         requires room { 0 < pass_room pass }
 
-        // It is a turn of this cell for the player of the pass, in which no entry was added yet.
+        // It is a turn of this cell for the player of the pass, in which no entry was added yet and no look was made.
         ensures own { IsHeldOf (IsLegal S.machine) S.start S.history self.now result }
         ensures players { held_players result ≡ pass_players pass }
         ensures who { held_who result ≡ pass_who pass }
         ensures room { held_room result ≡ pass_room pass }
         ensures holds { held_holds result ≡ pass_holds pass + 1 }
         ensures fresh { has_added result ≡ false }
+        ensures unlooked { has_looked result ≡ false }
 
         // The history goes on from what the pass had seen with entries of others: of its players it has what the pass made.
         ensures seen { GoesOn (pass_players pass) (pass_seen pass) (S.history (service_of result)) }
@@ -64,6 +65,7 @@ impl<S: Service> Cell<S> {
             who,
             room,
             added: false,
+            looked: false,
         }
     }
 
@@ -117,6 +119,7 @@ impl<S: Service> Cell<S> {
             who,
             room,
             added,
+            looked: _,
         } = held;
         let front = service.history().len() as u64;
         let None = self.table.shared.exchange(&mut seat, 0, Some(service)) else {

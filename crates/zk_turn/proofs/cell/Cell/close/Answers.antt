@@ -53,3 +53,13 @@ returns-clause-legal g c =
     (g.S.Service.start key.service.value) (length key.players.items) seat.id seat.me.0
     (slots_items closed.result.words) (slots_items closed.result.slots) c.take.result c.in-Some.service
     c.requires.own.idle c.requires.all closed.ensures.values.2 c.take.ensures.value c.in-Some.is).lawful
+
+pub returns-clause-short : goal.returns-clause-short
+returns-clause-short g c =
+    let key = c.args.self.table.shared.key in
+    let seat = c.args.pass.seat in
+    let closed = c.close_with-closed in
+    (service_ends (IsLegal g.S.Service.machine) g.S.Service.start g.S.Service.history
+    (g.S.Service.start key.service.value) (length key.players.items) seat.id seat.me.0
+    (slots_items closed.result.words) (slots_items closed.result.slots) c.take.result c.in-Some.service
+    c.requires.own.idle c.requires.all closed.ensures.values.2 c.take.ensures.value c.in-Some.is).short
