@@ -48,7 +48,7 @@ use Rattle.zk_world.specs.Ready.{IsReady}
 use Rattle.zk_world.specs.Traces.{all_done}
 use Rattle.zk_world.specs.World.{World, first, stepped, is_spent}
 use Rattle.zk_world.proofs.Beginning.{ready-first, first-there, first-players}
-use Rattle.zk_world.proofs.Lawful.{there-is}
+use Rattle.zk_world.proofs.Places.{there-is}
 use Rattle.zk_world.proofs.Readiness.{ready-stepped}
 use Rattle.zk_replay.specs.RoundRobin.{round, rounds, IsRun}
 use Rattle.zk_trace.specs.Ending.{none_waits}
