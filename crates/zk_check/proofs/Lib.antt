@@ -33,4 +33,3 @@ pub mod PlayableTraces
 pub mod PlayedLogs
 pub mod Together
 pub mod UnlikeLines
-pub mod WaitingItems

@@ -1,11 +1,9 @@
 ghost use Rattle.std.specs.Prelude.{◌≡◌, ◌↔◌, false, IsTrue, IfOk};
 ghost use Rattle.std.specs.List.{list_any, list_all};
-ghost use Rattle.zk_base.specs.Legal.{state_after};
-ghost use Rattle.zk_model_work.specs.Machine.{work_machine};
-ghost use Rattle.zk_worker.specs.Machines.{work_start_of, machines_of};
+ghost use Rattle.zk_worker.specs.Machines.{machines_of};
 ghost use Rattle.zk_worker.specs.Shown.{AreShort};
 ghost use Rattle.zk_services.specs.Alone.{plain_machines, plain_shown};
-ghost use Rattle.zk_trace.specs.Ending.{is_spent_state, is_done_state, none_waits, lawful_ending, EndsSo};
+ghost use Rattle.zk_trace.specs.Ending.{is_spent_state, is_done_state, lawful_ending, EndsSo};
 ghost use Rattle.zk_trace.specs.Form.{IsInForm};
 ghost use Rattle.zk_trace.specs.History.{AreLegal};
 ghost use Rattle.zk_trace.specs.Place.{IsPlaced};
@@ -13,30 +11,11 @@ ghost use Rattle.zk_trace.specs.Shown.{trace_shown};
 ghost use Rattle.zk_check.specs.CanStep.{CanTry, EachCanTry, Steps, NoneSteps};
 ghost use Rattle.zk_check.specs.Played.{ArePlayedOut};
 
-use zk_base::{NoMemory, Service};
+use zk_base::NoMemory;
 use zk_scenario::Scenario;
-use zk_services::Plain;
+use zk_services::{Plain, none_waits};
 use zk_trace::{Ending, Trace};
 use zk_worker::{Log, MOST_ATTEMPTS, Player, PlayerState, Services};
-
-/// The busy flag of an item that stands in a queue's line.
-const QUEUED: u32 = 4;
-
-/// Whether no admission waits, by the items' busy flags.
-fn none_waits(services: &Plain, scenario: &Scenario, trace: &Trace) -> bool
-    requires form { IsInForm scenario.now trace.now }
-    requires machines { plain_machines services.now ≡ machines_of scenario.now }
-    requires shown { plain_shown services.now ≡ trace_shown trace.now }
-    ensures { result ≡ none_waits (state_after work_machine (work_start_of scenario.now) trace.now.work) }
-{
-    let _valid = scenario.decls();
-    for item in 0..scenario.items().len() {
-        if services.work.word(item as u32) & QUEUED != 0 {
-            return false;
-        }
-    }
-    true
-}
 
 fn is_spent(log: &Log) -> bool
     ensures { result ≡ is_spent_state log.now.state }
@@ -69,7 +48,6 @@ fn all_done(logs: &[Log]) -> bool
 
 /// How a run ends that ends as these services and logs stand.
 fn ending_of(services: &Plain, scenario: &Scenario, trace: &Trace) -> Ending
-    requires form { IsInForm scenario.now trace.now }
     requires machines { plain_machines services.now ≡ machines_of scenario.now }
     requires shown { plain_shown services.now ≡ trace_shown trace.now }
     ensures { result ≡ lawful_ending scenario.now trace.now }
@@ -78,7 +56,7 @@ fn ending_of(services: &Plain, scenario: &Scenario, trace: &Trace) -> Ending
     if any_spent(logs) {
         return Ending::Spent;
     }
-    if all_done(logs) && none_waits(services, scenario, trace) {
+    if all_done(logs) && none_waits(services, scenario) {
         Ending::Ended
     } else {
         Ending::Stuck

@@ -1,11 +1,9 @@
--- The trace of a run that has come to its end.
-use Rattle.std.proofs.Common.{◌≡◌, ℕ, zero, suc, ◌+◌, ◌<◌, ◌∙◌, Bool, true, false, not, ◌&&◌, cond, eqb, eq-eqb, nat_lt, Option, Some, None, List, [], ◌∷◌, length, map, All, refl, sym, ap, subst, arith, length-append}
-use Rattle.std.specs.List.{slice_get, list_all}
+-- Where a run has ended no admission waits or runs.
+use Rattle.std.proofs.Common.{◌≡◌, ℕ, ◌+◌, ◌<◌, ◌∙◌, Bool, true, false, ◌&&◌, cond, eqb, eq-eqb, nat_lt, Option, Some, None, List, [], ◌∷◌, length, All, refl, sym, ap, subst, arith, length-append}
+use Rattle.std.specs.List.{slice_get}
 use Rattle.std.specs.Option.{option_map}
-use Rattle.std.proofs.lemmas.Bool.{and_from}
 use Rattle.std.proofs.lemmas.Bool.Decides.{nat_tests}
 use Rattle.std.proofs.lemmas.List.{length-set}
-use Rattle.std.proofs.lemmas.List.Elements.{All-head, All-tail}
 use Rattle.zk_base.proofs.Lists.{and_second, All-at, list_all-at}
 use Rattle.zk_base.specs.Legal.{state_after}
 use Rattle.zk_model_work.specs.declared.ops.WorkOp.TheVariants as ops
@@ -36,26 +34,26 @@ use Rattle.zk_worker.specs.Protocol.{IsAhead, attempts, checks_first, frames_att
 use Rattle.zk_worker.specs.Ranges.{IsFit}
 use Rattle.zk_worker.proofs.Replied.{replied-fits}
 use Rattle.zk_worker.proofs.StageFits.{ProgressFits, frames_progress-fits}
-use Rattle.zk_worker.specs.Follows.{log_of, is_done, is_between, is_spent_at}
+use Rattle.zk_worker.specs.Follows.{is_done, is_between, is_spent_at}
 use Rattle.zk_worker.specs.Machines.{work_start_of, machines_of}
 use Rattle.zk_worker.specs.Attempt.{reply_in}
 use Rattle.zk_worker.proofs.Lists.{none-passes}
 use Rattle.zk_worker.proofs.ShownSteps.{made-of}
 use Rattle.zk_worker.proofs.Ranges.{same-lengths}
-use Rattle.zk_trace.specs.declared.trace.Ending.{Ending}
 use Rattle.zk_trace.specs.declared.trace.Ending.TheVariants as endings
 use Rattle.zk_trace.specs.declared.trace.Trace.{Trace}
-use Rattle.zk_services.specs.Gathered.{gathered}
 use Rattle.zk_worker.specs.Choosing.{or_else, first_possible, chosen}
-use Rattle.zk_replay.specs.RoundRobin.{World, stepped, first, round, rounds, is_spent, IsRun}
-use Rattle.zk_replay.specs.Ready.{IsReady}
+use Rattle.zk_world.specs.Ready.{IsReady}
+use Rattle.zk_world.specs.Traces.{all_done}
+use Rattle.zk_world.specs.World.{World, first, stepped, is_spent}
+use Rattle.zk_world.proofs.Beginning.{ready-first, first-there, first-players}
+use Rattle.zk_world.proofs.Places.{there-is}
+use Rattle.zk_world.proofs.Readiness.{ready-stepped}
+use Rattle.zk_replay.specs.RoundRobin.{round, rounds, IsRun}
 use Rattle.zk_trace.specs.Ending.{none_waits}
-use Rattle.zk_replay.specs.Replay.{all_done, ending_of, trace_of, IsReplay}
-use Rattle.zk_replay.specs.Ending.{ending_by}
+use Rattle.zk_replay.specs.Replay.{trace_of, IsReplay}
 use Rattle.zk_replay.specs.Over.{IsOver}
 use Rattle.zk_replay.specs.Tending.{IsIdle, IsWorkers, WorksQueue, EachQueueIsWorked}
-use Rattle.zk_replay.proofs.Readiness.{ready-stepped}
-use Rattle.zk_replay.proofs.Beginning.{ready-first, first-there, first-players}
 use Rattle.zk_model_work.proofs.Runs.{none-waits-for}
 use Rattle.zk_replay.proofs.WorkerRuns.{IsElsewhere, tended-step, tended-elsewhere, tended-first, worker-of}
 use Rattle.zk_replay.proofs.StillRounds.{first_possible-is, rounds-keep, round-still}
@@ -143,27 +141,8 @@ answer-none : (r : Option WorkReply) (long : ℕ) (step : Step) → or_else step
 answer-none None long step none = refl
 answer-none (Some x) long step none = absurd (cc)
 
-none-wait : (many : ℕ) (xs : List Admission) → All (λ a. a.queue < many) xs → ((queue : ℕ) → queue < many → All (λ a. waits_for queue a ≡ false) xs) → list_all (λ a. not (is_waiting a.life)) xs ≡ true
-none-wait many [] homes none = refl
-none-wait many (a ∷ xs) homes none =
-    let P : Admission → Type 0 = λ a. a.queue < many in
-    let here : waits_for a.queue a ≡ false = let Q : Admission → Type 0 = λ b. waits_for a.queue b ≡ false in All-head Q a xs (none a.queue (All-head P a xs homes)) in
-    let rest = none-wait many xs (All-tail P a xs homes) (λ queue less. let Q : Admission → Type 0 = λ b. waits_for queue b ≡ false in All-tail Q a xs (none queue less)) in
-    and_from (not (is_waiting a.life)) (list_all (λ a. not (is_waiting a.life)) xs) (not_waits (eqb a.queue a.queue) (is_waiting a.life) (eq-eqb a.queue a.queue refl) here) rest
-  where
-    not_waits : (b c : Bool) → b ≡ true → (b && c) ≡ false → not c ≡ true
-    not_waits true true is none = absurd (cc)
-    not_waits true false is none = refl
-    not_waits false c is none = absurd (cc)
-
 short-unspent : (s : Content) (at : PlayerPlace) → is_spent_at s at ≡ false → nat_lt (length at.spots) (steps_of s) ≡ true
 short-unspent s at is = grind (arith, nat_tests)
-
--- where a list is long enough something is at a place
-pub there-is : (xs : List PlayerPlace) (p : ℕ) → p < length xs → (x : PlayerPlace) × (slice_get xs p ≡ Some x)
-there-is [] p within = absurd (omega arith)
-there-is (x ∷ xs) zero within = (x, refl)
-there-is (x ∷ xs) (suc p) within = there-is xs p (omega arith)
 
 not-open : (life : Life) → is_waiting life ≡ false → is_running life ≡ false → is_open life ≡ false
 not-open Waiting waits runs = absurd (cc)
@@ -202,11 +181,7 @@ module _ (s : Content) (w : World) (good : IsGood s w) (still : round (machines_
       none-waits-for good.state at.who queue
       (worker-of s w good.state queue good.tended within ∙ ap (λ (n : ℕ). Some n) (sym (good.ready.numbers (threads + queue) at there.1))) only.1 not_begun
 
-  -- where all are done at the end of a run that isn't spent, no admission waits
-  ended : none_waits (state_after work_machine (work_start_of s) w.shown.work) ≡ true
-  ended = subst (λ (t : State). none_waits t ≡ true) good.tended.after (none-wait (length (places is_queue s.decls)) good.state.admissions good.tended.homes none-for)
-
-  -- and none runs
+  -- none waits or runs
   over-at : (number : ℕ) (a : Admission) → slice_get good.state.admissions number ≡ Some a → is_open a.life ≡ false
   over-at number a is =
       let Home : Admission → Type 0 = λ b. b.queue < length (places is_queue s.decls) in
@@ -217,35 +192,6 @@ module _ (s : Content) (w : World) (good : IsGood s w) (still : round (machines_
       not-open a.life
       (and_second (eqb a.queue a.queue) (is_waiting a.life) here (All-at Waits good.state.admissions number a (none-for a.queue within) is))
       (and_second (eqb a.queue a.queue) (is_running a.life) here (All-at Runs good.state.admissions number a (between a.queue within).1 is))
-
-ending-good : (s : Content) (w : World) → IsGood s w → round (machines_of s) s w ≡ w → ending_by s w.players ≡ ending_of s w
-ending-good s w good still = by_spent (is_spent s w) refl
-  where
-    waits : Bool
-    waits = none_waits (state_after work_machine (work_start_of s) w.shown.work)
-
-    by_done : (b : Bool) → is_spent s w ≡ false → all_done w.players ≡ b → cond b endings.Ended endings.Stuck ≡ cond (b && none_waits (state_after work_machine (work_start_of s) w.shown.work)) endings.Ended endings.Stuck
-    by_done true unspent done = sym (ap (λ c. cond c endings.Ended endings.Stuck) (ended s w good still unspent done))
-    by_done false unspent done = refl
-
-    by_spent : (b : Bool) → is_spent s w ≡ b → cond b endings.Spent (cond (all_done w.players) endings.Ended endings.Stuck)
-        ≡ cond b endings.Spent (cond (all_done w.players && none_waits (state_after work_machine (work_start_of s) w.shown.work)) endings.Ended endings.Stuck)
-    by_spent true spent = refl
-    by_spent false unspent = by_done (all_done w.players) unspent refl
-
--- at the end of a run the players alone say how it ended
-ending-is : (s : Content) (w : World) → IsValid s → IsRun (machines_of s) s w → ending_by s w.players ≡ ending_of s w
-ending-is s w valid run =
-    ending-good s w (subst (λ (v : World). IsGood s v) (sym run.1) (good-rounds s run.0 valid)) run.2
-
--- what the code hands out is the trace of the run
-pub replayed : (s : Content) (old w : World) (ending : Ending) (t : Trace) → IsValid s →
-    old ≡ first s → (n : ℕ) → w ≡ rounds (machines_of s) s n old → round (machines_of s) s w ≡ w →
-    ending ≡ ending_by s w.players → t ≡ gathered ending w.shown (map (log_of s) w.players) →
-    IsReplay s t
-replayed s old w ending t valid begins n so_far over by_players same =
-    let run : IsRun (machines_of s) s w = (n, so_far ∙ ap (rounds (machines_of s) s n) begins, over) in
-    (w, run, same ∙ ap (λ (e : Ending). gathered e w.shown (map (log_of s) w.players)) (by_players ∙ ending-is s w valid run))
 
 -- what an ending says of the players
 ended-parts : (spent done waits : Bool) → cond spent endings.Spent (cond (done && waits) endings.Ended endings.Stuck) ≡ endings.Ended → (spent ≡ false) × (done ≡ true)

@@ -37,7 +37,8 @@ use Rattle.zk_worker.proofs.Lists.{slice_get-set}
 use Rattle.zk_replay.specs.declared.turns.Turn.{Turn}
 use Rattle.zk_replay.specs.declared.last_turn.Asked.{Asked}
 use Rattle.zk_replay.specs.declared.last_turn.LastTurn.{LastTurn}
-use Rattle.zk_replay.specs.Turning.{world, shown_with, at_after, IsTurn}
+use Rattle.zk_world.specs.World.{world}
+use Rattle.zk_replay.specs.Turning.{shown_with, at_after, IsTurn}
 use Rattle.zk_replay.specs.LastTurns.{asked_at, IsFutile, AreFutile, counted_again, HaveAsked, IsEarlier, WaitsSince, IsKept, AreKept}
 
 module _ {A : Type 0} where

@@ -3,7 +3,8 @@ use Rattle.std.proofs.Common.{◌≡◌, ℕ, zero, suc, ◌+◌, sym, ap, ◌�
 use Rattle.std.proofs.lemmas.Option.{slice_get_within}
 use Rattle.zk_scenario.specs.Content.{Content}
 use Rattle.zk_worker.specs.Machines.{Machines, machines_of}
-use Rattle.zk_replay.specs.RoundRobin.{World, first, round, rounds, IsRun}
+use Rattle.zk_world.specs.World.{World, first}
+use Rattle.zk_replay.specs.RoundRobin.{round, rounds, IsRun}
 use Rattle.zk_replay.specs.Laws.{HasOneRun, NoneGoesOn}
 use Rattle.zk_replay.proofs.StillRounds.{round-still}
 

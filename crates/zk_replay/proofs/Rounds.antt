@@ -16,11 +16,12 @@ use Rattle.zk_replay.specs.declared.turns.Turn.{Turn}
 use Rattle.zk_replay.specs.declared.turns.RoundEnd.{RoundEnd}
 use Rattle.zk_replay.specs.declared.turns.RoundEnd.TheVariants.{Spent}
 use Rattle.zk_worker.specs.Choosing.{chosen}
-use Rattle.zk_replay.specs.RoundRobin.{World, stepped, turn, turn_of, turns, round, rounds, is_spent}
-use Rattle.zk_replay.specs.Ready.{IsReady, all_left}
-use Rattle.zk_replay.specs.Turning.{world, shown_with, at_after, IsTurn, Turned, Rounded, WithinRound}
+use Rattle.zk_world.specs.Ready.{IsReady, all_left}
+use Rattle.zk_world.specs.World.{World, world, stepped, is_spent}
+use Rattle.zk_world.proofs.Readiness.{ready-stepped, left-stepped}
+use Rattle.zk_replay.specs.RoundRobin.{turn, turn_of, turns, round, rounds}
+use Rattle.zk_replay.specs.Turning.{shown_with, at_after, IsTurn, Turned, Rounded, WithinRound}
 use Rattle.zk_replay.proofs.StillRounds.{first_possible-is}
-use Rattle.zk_replay.proofs.Readiness.{ready-stepped, left-stepped}
 
 module _ (m : Machines) (s : Content) where
   turn-unspent : (w : World) (p : ℕ) (at : PlayerPlace) → is_spent s w ≡ false → slice_get w.players p ≡ Some at → turn m s w p ≡ stepped s w p at (chosen m s w.shown at)

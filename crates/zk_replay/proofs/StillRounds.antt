@@ -14,14 +14,11 @@ use Rattle.zk_worker.specs.Choosing.{or_else, first_possible, chosen}
 use Rattle.zk_worker.specs.declared.steps.Spot.{Spot}
 use Rattle.zk_worker.proofs.CheckedSteps.{after-spots}
 use Rattle.zk_worker.proofs.Lists.{sum-set}
-use Rattle.zk_replay.specs.RoundRobin.{World, stepped, turn, turn_of, turns, round, rounds, is_spent}
+use Rattle.zk_world.specs.Chosen.{IsChosen}
+use Rattle.zk_world.specs.World.{World, stepped, is_spent}
+use Rattle.zk_replay.specs.RoundRobin.{turn, turn_of, turns, round, rounds}
 
--- a step that is made is one of the attempts, and was answered so
-pub record IsChosen (m : Machines) (shown : Shown) (who : Who) (ahead : List Step) (made : Step × StepReply) : Type 0 where
-  pub place : ℕ
-  pub is_there : slice_get ahead place ≡ Some made.0
-  pub answered : reply_in m shown who made.0 ≡ Some made.1
-
+-- what is chosen is one of the attempts, and was answered so
 pub first_possible-is : (m : Machines) (shown : Shown) (who : Who) (ahead : List Step) (made : Step × StepReply) →
     first_possible m shown who ahead ≡ Some made → IsChosen m shown who ahead made
 first_possible-is m shown who [] made is = absurd (cc)

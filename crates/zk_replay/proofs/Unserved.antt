@@ -33,7 +33,8 @@ use Rattle.zk_worker.specs.Attempt.{reply_in}
 use Rattle.zk_worker.specs.Looks.{look_reply, look_at, looks_at, found_by, seen_after}
 use Rattle.zk_worker.specs.Choosing.{or_else, first_possible, chosen}
 use Rattle.zk_worker.proofs.ShownSteps.{whole-after}
-use Rattle.zk_replay.specs.RoundRobin.{World, stepped, is_spent, turn, turn_of, turns, rounds, first, IsRun}
+use Rattle.zk_world.specs.World.{World, stepped, is_spent, first}
+use Rattle.zk_replay.specs.RoundRobin.{turn, turn_of, turns, rounds, IsRun}
 use Rattle.zk_replay.specs.Laws.{NoneIsServed}
 use Rattle.zk_replay.proofs.OneRun.{none_goes_on}
 

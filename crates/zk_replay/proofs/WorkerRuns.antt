@@ -47,7 +47,7 @@ use Rattle.zk_worker.specs.Protocol.{IsAhead, call_attempts, frames_attempts, fr
 use Rattle.zk_worker.specs.Machines.{workers, work_start_of, is_on}
 use Rattle.zk_worker.proofs.Lists.{slice_get-set}
 use Rattle.zk_services.specs.Starts.{starts}
-use Rattle.zk_replay.specs.RoundRobin.{World, first, stepped}
+use Rattle.zk_world.specs.World.{World, first, stepped}
 use Rattle.zk_replay.specs.Tending.{IsIdle, IsWorkers, IsScript, WorksQueue, Works, EachQueueIsWorked}
 use Rattle.zk_model_work.proofs.Runs.{IsCalled, idle-called, idle-ended, idle-next, begin-told, homes-next, workers-next}
 use Rattle.zk_model_bus.specs.declared.channel.ChanOp.TheVariants as chan_ops

@@ -11,9 +11,9 @@ use Rattle.zk_worker.specs.Machines.{Machines}
 use Rattle.zk_worker.specs.Places.{PlayerPlace}
 use Rattle.zk_worker.specs.Protocol.{attempts}
 use Rattle.zk_worker.specs.Shown.{Shown}
+use Rattle.zk_world.specs.World.{World}
 use Rattle.zk_replay.specs.declared.last_turn.Asked.{Asked}
 use Rattle.zk_replay.specs.declared.last_turn.LastTurn.{LastTurn}
-use Rattle.zk_replay.specs.RoundRobin.{World}
 
 -- a step, with how many entries are shown of the service that it asks
 abbrev pub asked_at : Shown → Step → Asked

@@ -22,7 +22,8 @@ use Rattle.zk_worker.specs.Places.{PlayerPlace}
 use Rattle.zk_worker.specs.Protocol.{IsAhead}
 use Rattle.zk_worker.specs.Machines.{machines_of}
 use Rattle.zk_worker.specs.Choosing.{chosen}
-use Rattle.zk_replay.specs.RoundRobin.{World, IsRun, is_spent}
+use Rattle.zk_world.specs.World.{World, is_spent}
+use Rattle.zk_replay.specs.RoundRobin.{IsRun}
 
 -- a scenario has at most one round robin run
 abbrev pub HasOneRun : Type 0

@@ -1,9 +1,7 @@
 pub mod RoundRobin
-pub mod Ready
 pub mod Turning
 pub mod LastTurns
 pub mod Replay
-pub mod Ending
 pub mod Tending
 pub mod Laws
 pub mod Over

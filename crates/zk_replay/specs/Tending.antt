@@ -15,7 +15,7 @@ use Rattle.zk_worker.specs.declared.frames.Stage.{Stage}
 use Rattle.zk_worker.specs.declared.frames.Stage.TheVariants.{Start, Runs}
 use Rattle.zk_worker.specs.Places.{PlayerPlace}
 use Rattle.zk_worker.specs.Machines.{workers, work_start_of}
-use Rattle.zk_replay.specs.RoundRobin.{World}
+use Rattle.zk_world.specs.World.{World}
 
 -- the queue runs nothing
 abbrev pub IsIdle : ℕ → List Admission → Type 0

@@ -1,4 +1,4 @@
-use Rattle.std.specs.Prelude.{◌≡◌, ℕ, ◌<◌, Bool, true, false, Option, Some, None, is_some, List, length}
+use Rattle.std.specs.Prelude.{◌≡◌, ℕ, ◌<◌, Bool, true, false, Option, Some, None, is_some, length}
 use Rattle.zk_base.specs.declared.ids.Who.{Who}
 use Rattle.zk_scenario.specs.Content.{Content}
 use Rattle.zk_worker.specs.declared.steps.Step.{Step}
@@ -13,8 +13,9 @@ use Rattle.zk_replay.specs.declared.turns.Turn.{Turn}
 use Rattle.zk_replay.specs.declared.turns.RoundEnd.{RoundEnd}
 use Rattle.zk_replay.specs.declared.turns.RoundEnd.TheVariants.{Still, Goes, Spent}
 use Rattle.zk_worker.specs.Choosing.{chosen}
-use Rattle.zk_replay.specs.RoundRobin.{World, turn, turns, round, is_spent}
-use Rattle.zk_replay.specs.Ready.{IsReady, all_left}
+use Rattle.zk_world.specs.Ready.{IsReady, all_left}
+use Rattle.zk_world.specs.World.{World, is_spent}
+use Rattle.zk_replay.specs.RoundRobin.{turn, turns, round}
 
 -- what is shown after a turn
 abbrev pub shown_with : Shown → Who → ℕ → Option (Step × StepReply) → Shown
@@ -43,10 +44,6 @@ pub record IsAlone (s : Content) (alone : Bool) (m : Machines) (serves : Who →
   pub is_alone : alone ≡ true
   pub machines : m ≡ machines_of s
   pub serves_all : (who : Who) → serves who
-
--- what is shown, and these players
-abbrev pub world : Shown → List PlayerPlace → World
-world shown players = record { shown = shown; players = players }
 
 -- what a turn leaves, and what is told of it
 pub record Turned (m : Machines) (s : Content) (old new : World) (player : ℕ) (told : Turn)

@@ -6,9 +6,10 @@ ghost use Rattle.zk_worker.specs.Machines.{machines_of};
 ghost use Rattle.zk_worker.specs.Shown.{ShowsLog, AreShort};
 ghost use Rattle.zk_worker.specs.Right.{LooksRight};
 ghost use Rattle.zk_worker.specs.Choosing.{chosen};
-ghost use Rattle.zk_replay.specs.RoundRobin.{World, turn, round, rounds, is_spent};
-ghost use Rattle.zk_replay.specs.Ready.{IsReady};
-ghost use Rattle.zk_replay.specs.Turning.{made_step, world, IsAlone, IsTurn, Turned, Rounded};
+ghost use Rattle.zk_world.specs.Ready.{IsReady};
+ghost use Rattle.zk_world.specs.World.{world, is_spent};
+ghost use Rattle.zk_replay.specs.RoundRobin.{turn, round, rounds};
+ghost use Rattle.zk_replay.specs.Turning.{made_step, IsAlone, IsTurn, Turned, Rounded};
 ghost use Rattle.zk_replay.specs.LastTurns.{IsKept, AreKept};
 
 use crate::last_turn::{LastTurn, is_in_vain, keep, no_turns};

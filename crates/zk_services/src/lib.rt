@@ -9,9 +9,11 @@ mod looks;
 mod objects;
 mod plain;
 mod table;
+mod waiting;
 
 pub use counted::{Counted, ServiceId, service_of};
 pub use first::{first_players, first_services};
 pub use gathering::gather;
 pub use objects::{act_at, histories_of};
 pub use plain::{Histories, Plain};
+pub use waiting::none_waits;

@@ -18,7 +18,7 @@ use Rattle.zk_worker.specs.Machines.{work_start_of, machines_of}
 use Rattle.zk_worker.specs.TableSetup.{setup_of}
 use Rattle.zk_trace.specs.Text.{trace_text}
 use Rattle.zk_trace.proofs.LegalHistories.{histories-legal}
-use Rattle.zk_replay.proofs.Legality.{legal-one}
+use Rattle.zk_world.proofs.Legality.{legal-one}
 use Rattle.zk_model_work.proofs.Drains.{undrained-fresh}
 use Rattle.zk_cli.specs.Answer.{IsOutput}
 use Rattle.zk_cli.proofs.Outcomes.{output-run}

@@ -1,6 +1,6 @@
 use Rattle.std.proofs.Common.{◌+◌, ◌-◌, ◌∙◌, suc, sym, arith}
 use Rattle.zk_worker.specs.Machines.{machines_of}
-use Rattle.zk_replay.specs.Turning.{world}
+use Rattle.zk_world.specs.World.{world}
 use Rattle.zk_replay.proofs.Rounds.{within-left, within-spent, within-next}
 use Rattle.zk_replay.proofs.turns.play_round.Goals as goal
 

@@ -1,6 +1,7 @@
 use Rattle.std.proofs.Common.{◌≡◌, ◌-◌, vec_len}
 use Rattle.zk_worker.specs.Machines.{machines_of}
-use Rattle.zk_replay.specs.Turning.{world, IsAlone, WithinRound}
+use Rattle.zk_world.specs.World.{world}
+use Rattle.zk_replay.specs.Turning.{IsAlone, WithinRound}
 use Rattle.zk_replay.specs.LastTurns.{AreKept}
 use Rattle.zk_replay.proofs.turns.play_round.Given as goal
 

@@ -1,7 +1,7 @@
 use Rattle.std.proofs.Common.{suc}
 use Rattle.zk_worker.specs.Machines.{machines_of}
+use Rattle.zk_world.specs.World.{world}
 use Rattle.zk_replay.specs.declared.turns.RoundEnd.TheVariants.{Goes, Spent}
-use Rattle.zk_replay.specs.Turning.{world}
 use Rattle.zk_replay.proofs.Rounds.{rounded-at, rounds-next, over-spent}
 use Rattle.zk_replay.proofs.turns.play_rounds.Goals as goal
 

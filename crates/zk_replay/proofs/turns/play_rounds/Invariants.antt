@@ -1,8 +1,9 @@
 use Rattle.std.proofs.Common.{◌≡◌, ℕ, false, vec_len}
 use Rattle.zk_worker.specs.Machines.{machines_of}
-use Rattle.zk_replay.specs.RoundRobin.{rounds, is_spent}
-use Rattle.zk_replay.specs.Ready.{IsReady, all_left}
-use Rattle.zk_replay.specs.Turning.{world, IsAlone}
+use Rattle.zk_world.specs.Ready.{IsReady, all_left}
+use Rattle.zk_world.specs.World.{world, is_spent}
+use Rattle.zk_replay.specs.RoundRobin.{rounds}
+use Rattle.zk_replay.specs.Turning.{IsAlone}
 use Rattle.zk_replay.specs.LastTurns.{AreKept}
 use Rattle.zk_replay.proofs.turns.play_rounds.Given as goal
 

@@ -6,10 +6,10 @@ use Rattle.zk_worker.specs.Places.{PlayerPlace}
 use Rattle.zk_worker.specs.Machines.{Machines, machines_of}
 use Rattle.zk_worker.specs.Right.{LooksRight}
 use Rattle.zk_worker.specs.Ranges.{IsFit}
-use Rattle.zk_replay.specs.Turning.{world}
+use Rattle.zk_world.specs.World.{world}
+use Rattle.zk_world.proofs.Readiness.{short-shown}
 use Rattle.zk_replay.specs.LastTurns.{IsKept}
 use Rattle.zk_replay.proofs.InVain.{kept-if}
-use Rattle.zk_replay.proofs.Readiness.{short-shown}
 use Rattle.zk_replay.proofs.Rounds.{turned-if, turned-at}
 use Rattle.zk_replay.proofs.turns.take_turn.Goals as goal
 

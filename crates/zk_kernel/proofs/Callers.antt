@@ -1,0 +1,32 @@
+-- A caller after a step.
+use Rattle.std.proofs.Common.{◌≡◌, ℕ, Bool, false, Ok, Err, Result, refl, sym, ap, subst, ◌∙◌}
+use Rattle.std.specs.Prelude.{IfOk, OnErr}
+use Rattle.zk_base.specs.declared.errors.NoMemory.{NoMemory}
+use Rattle.zk_scenario.specs.Content.{Content}
+use Rattle.zk_scenario.specs.Valid.{IsValid}
+use Rattle.zk_worker.specs.declared.playing.Stepped.{Stepped}
+use Rattle.zk_worker.specs.declared.playing.Stepped.TheVariants.{Did, NotYet, Ended, Spent}
+use Rattle.zk_worker.specs.Places.{PlayerPlace}
+use Rattle.zk_worker.specs.Machines.{Machines, machines_of}
+use Rattle.zk_worker.specs.Shown.{Shown, OnlyOthersCame}
+use Rattle.zk_worker.specs.Attempt.{Counts}
+use Rattle.zk_worker.specs.Playing.{StepOutcome}
+use Rattle.zk_worker.proofs.CheckedSteps.{after-spots}
+use Rattle.zk_world.specs.SoundPlayer.{IsSoundPlayer}
+use Rattle.zk_world.proofs.Players.{player-stepped, player-still}
+
+-- a step doesn't change who the player is
+pub same-who : (alone : Bool) (m : Machines) (s : Content) (at at' : PlayerPlace) (old new : Shown) (counts counts' : Counts) (result : Result Stepped NoMemory) →
+    IfOk result (λ stepped. StepOutcome alone m s at at' old new counts counts' stepped) → OnErr result (at' ≡ at) → at'.who ≡ at.who
+same-who alone m s at at' old new counts counts' (Ok Did) does err = ap (λ (a : PlayerPlace). a.who) does.next ∙ (after-spots s at does.step does.reply).0
+same-who alone m s at at' old new counts counts' (Ok NotYet) does err = ap (λ (a : PlayerPlace). a.who) does.unchanged
+same-who alone m s at at' old new counts counts' (Ok Ended) does err = ap (λ (a : PlayerPlace). a.who) does.1.unchanged
+same-who alone m s at at' old new counts counts' (Ok Spent) does err = ap (λ (a : PlayerPlace). a.who) does.unchanged
+same-who alone m s at at' old new counts counts' (Err e) does err = ap (λ (a : PlayerPlace). a.who) err
+
+-- the player and its log are sound after a step, whatever came of it
+pub still-sound : (m : Machines) (s : Content) (at at' : PlayerPlace) (old new : Shown) (counts counts' : Counts) (result : Result Stepped NoMemory) → IsValid s → m ≡ machines_of s → IsSoundPlayer s old at →
+    IfOk result (λ stepped. StepOutcome false m s at at' old new counts counts' stepped) → OnErr result (at' ≡ at) → OnErr result (OnlyOthersCame false at.who.number old new) →
+    IsSoundPlayer s new at'
+still-sound m s at at' old new counts counts' (Ok stepped) valid same sound does unchanged err = player-stepped false m s at at' old new counts counts' stepped valid same sound does
+still-sound m s at at' old new counts counts' (Err e) valid same sound does unchanged err = subst (IsSoundPlayer s new) (sym unchanged) (player-still false s at old new err sound)

@@ -1,0 +1,284 @@
+use Rattle.std.proofs.Common.{rules, ◌≡◌, ℕ, false, List, Option, Ok, Some, None, refl, sym, ap, subst, ◌∙◌}
+use Rattle.std.specs.Option.{option_map}
+use Rattle.zk_model_wait.specs.Clock.{clock_machine}
+use Rattle.zk_model_wait.specs.Sem.{sem_machine}
+use Rattle.zk_model_wait.specs.Msgq.{msgq_machine}
+use Rattle.zk_model_wait.specs.Signal.{signal_machine}
+use Rattle.zk_model_bus.specs.Channel.{chan_machine}
+use Rattle.zk_model_bus.specs.Observer.{obs_machine}
+use Rattle.zk_model_bus.specs.Table.{table_machine}
+use Rattle.zk_model_work.specs.Machine.{work_machine}
+use Rattle.zk_model_wait.specs.declared.clock.ClockReply.{ClockReply}
+use Rattle.zk_model_wait.specs.declared.sem.SemReply.{SemReply}
+use Rattle.zk_model_wait.specs.declared.msgq.MsgqReply.{MsgqReply}
+use Rattle.zk_model_wait.specs.declared.signal.SignalReply.{SignalReply}
+use Rattle.zk_model_work.specs.declared.ops.WorkReply.{WorkReply}
+use Rattle.zk_model_bus.specs.declared.table.TableReply.{TableReply}
+use Rattle.zk_model_bus.specs.declared.channel.ChanReply.{ChanReply}
+use Rattle.zk_model_bus.specs.declared.observer.ObsReply.{ObsReply}
+use Rattle.zk_bus.specs.Seen.{chan_start}
+use Rattle.zk_msgq.specs.Seen.{msgq_start}
+use Rattle.zk_objects.specs.Seen.{objects_start}
+use Rattle.zk_poll.specs.Seen.{signal_start}
+use Rattle.zk_sem.specs.Seen.{sem_start}
+use Rattle.zk_subq.specs.Seen.{obs_start}
+use Rattle.zk_time.specs.ClockSeen.{clock_start}
+use Rattle.zk_work.specs.Seen.{work_start}
+use Rattle.zk_turn.specs.Passes.{given_to}
+use Rattle.zk_worker.specs.declared.steps.Step.TheVariants as steps
+use Rattle.zk_worker.specs.declared.steps.StepReply.TheVariants as step_replies
+use Rattle.zk_worker.proofs.Between.{above-work, above-clock, above-table, above-sems, above-msgqs, above-signals, above-chans, above-observers}
+use Rattle.zk_kernel.specs.Desks.{cells_machines, IsServed, desk_shown}
+use Rattle.zk_kernel.specs.Seats.{seen_at}
+use Rattle.zk_base.specs.Legal.{IsLegal}
+use Rattle.zk_kernel.specs.Rows.{family, seen_all, AreSeats, VisitedAt}
+use Rattle.zk_kernel.proofs.Attempts.{attempted-one, attempted-many, when-err, looked-item, looked-signal}
+use Rattle.zk_kernel.proofs.Desks.{same-players, grows-work, grows-clock, grows-table, grows-sems, grows-msgqs, grows-signals, grows-chans, grows-observers}
+use Rattle.zk_kernel.proofs.desk.DeskServices.attempt.Goals as goal
+
+pub visit-requires-clause-later : goal.visit-requires-clause-later
+visit-requires-clause-later g c = above-work (desk_shown c.args.self.now.passes) c.args.who.number c.args.number c.requires.later
+
+pub returns-in_err-made-in-Work-clause-attempted : goal.returns-in_err-made-in-Work-clause-attempted
+returns-in_err-made-in-Work-clause-attempted g c =
+    let p = c.args.self.now.passes in
+    when-err (cells_machines c.args.self.now.cells.now) c.args.who c.args.number c.args.step.now (desk_shown p) (desk_shown (record p { work = c.visit.new.seat })) c.from_residual.result c.from_residual.ensures.0
+    (grows-work c.args.who.number (desk_shown p) (seen_at c.visit.new.seat) c.in_err-made-in-Work.ensures.visited)
+
+pub returns-in_ok-made-in-Work-clause-attempted : goal.returns-in_ok-made-in-Work-clause-attempted
+returns-in_ok-made-in-Work-clause-attempted g c =
+    let k = c.args.self.now.cells.now in
+    let old = desk_shown c.args.self.now.passes in
+    let made = c.in_ok-made-in-Work in
+    let told : option_map (λ (m : WorkReply × ℕ). step_replies.Work m.0 m.1) made.made ≡ c.map.result = search rules in
+    attempted-one work_machine (work_start (given_to k.work)) (cells_machines k) c.args.who c.args.number c.in-Work.op (steps.Work c.in-Work.op) step_replies.Work old
+    (λ h. record old { work = h }) old.work (grows-work c.args.who.number old) (λ h. refl) (λ h r place. tt) (λ h r place. refl)
+    (seen_at c.visit.new.seat) made.made _ _ made.ensures.visited c.in-Work.is told
+
+pub visit-requires-in-Clock-clause-later : goal.visit-requires-in-Clock-clause-later
+visit-requires-in-Clock-clause-later g c = above-clock (desk_shown c.args.self.now.passes) c.args.who.number c.args.number c.requires.later
+
+pub returns-in_err-made-in-Clock-clause-attempted : goal.returns-in_err-made-in-Clock-clause-attempted
+returns-in_err-made-in-Clock-clause-attempted g c =
+    let p = c.args.self.now.passes in
+    when-err (cells_machines c.args.self.now.cells.now) c.args.who c.args.number c.args.step.now (desk_shown p) (desk_shown (record p { clock = c.visit-in-Clock.new.seat })) c.from_residual-in_err-made-in-Clock.result c.from_residual-in_err-made-in-Clock.ensures.0
+    (grows-clock c.args.who.number (desk_shown p) (seen_at c.visit-in-Clock.new.seat) c.in_err-made-in-Clock.ensures.visited)
+
+pub returns-in_ok-made-in-Clock-clause-attempted : goal.returns-in_ok-made-in-Clock-clause-attempted
+returns-in_ok-made-in-Clock-clause-attempted g c =
+    let k = c.args.self.now.cells.now in
+    let old = desk_shown c.args.self.now.passes in
+    let made = c.in_ok-made-in-Clock in
+    let told : option_map (λ (m : ClockReply × ℕ). step_replies.Clock m.0 m.1) made.made ≡ c.map-in-Clock.result = search rules in
+    attempted-one clock_machine (clock_start (given_to k.clock)) (cells_machines k) c.args.who c.args.number c.in-Clock.op (steps.Clock c.in-Clock.op) step_replies.Clock old
+    (λ h. record old { clock = h }) old.clock (grows-clock c.args.who.number old) (λ h. refl) (λ h r place. tt) (λ h r place. refl)
+    (seen_at c.visit-in-Clock.new.seat) made.made _ _ made.ensures.visited c.in-Clock.is told
+
+pub visit-requires-in-Table-clause-later : goal.visit-requires-in-Table-clause-later
+visit-requires-in-Table-clause-later g c = above-table (desk_shown c.args.self.now.passes) c.args.who.number c.args.number c.requires.later
+
+pub returns-in_err-made-in-Table-clause-attempted : goal.returns-in_err-made-in-Table-clause-attempted
+returns-in_err-made-in-Table-clause-attempted g c =
+    let p = c.args.self.now.passes in
+    when-err (cells_machines c.args.self.now.cells.now) c.args.who c.args.number c.args.step.now (desk_shown p) (desk_shown (record p { table = c.visit-in-Table.new.seat })) c.from_residual-in_err-made-in-Table.result c.from_residual-in_err-made-in-Table.ensures.0
+    (grows-table c.args.who.number (desk_shown p) (seen_at c.visit-in-Table.new.seat) c.in_err-made-in-Table.ensures.visited)
+
+pub returns-in_ok-made-in-Table-clause-attempted : goal.returns-in_ok-made-in-Table-clause-attempted
+returns-in_ok-made-in-Table-clause-attempted g c =
+    let k = c.args.self.now.cells.now in
+    let old = desk_shown c.args.self.now.passes in
+    let made = c.in_ok-made-in-Table in
+    let told : option_map (λ (m : TableReply × ℕ). step_replies.Table m.0 m.1) made.made ≡ c.map-in-Table.result = search rules in
+    attempted-one table_machine (objects_start (given_to k.table)) (cells_machines k) c.args.who c.args.number c.in-Table.op (steps.Table c.in-Table.op) step_replies.Table old
+    (λ h. record old { table = h }) old.table (grows-table c.args.who.number old) (λ h. refl) (λ h r place. tt) (λ h r place. refl)
+    (seen_at c.visit-in-Table.new.seat) made.made _ _ made.ensures.visited c.in-Table.is told
+
+pub visit_at-requires-clause-later : goal.visit_at-requires-clause-later
+visit_at-requires-clause-later g c = λ h there.
+    above-sems (desk_shown c.args.self.now.passes) c.args.who.number c.args.number c.in-Sem.object h there c.requires.later
+
+pub returns-in_err-made-in-Sem-clause-attempted : goal.returns-in_err-made-in-Sem-clause-attempted
+returns-in_err-made-in-Sem-clause-attempted g c =
+    let p = c.args.self.now.passes in
+    when-err (cells_machines c.args.self.now.cells.now) c.args.who c.args.number c.args.step.now (desk_shown p) (desk_shown (record p { sems = c.visit_at.new.seats })) c.from_residual-in_err-made-in-Sem.result c.from_residual-in_err-made-in-Sem.ensures.0
+    (grows-sems c.args.who.number (desk_shown p) (seen_all c.visit_at.new.seats.items) c.in_err-made-in-Sem.ensures.visited)
+
+pub returns-in_err-made-in-Sem-clause-serves : goal.returns-in_err-made-in-Sem-clause-serves
+returns-in_err-made-in-Sem-clause-serves g c =
+    let p = c.args.self.now.passes in
+    same-players c.args.self.now.cells.now p (record p { sems = c.visit_at.new.seats }) c.args.who c.requires.served
+    (record { work = c.requires.served.work; clock = c.requires.served.clock; table = c.requires.served.table; sems = subst (λ cs. AreSeats (IsLegal sem_machine) sem_start c.args.who cs c.visit_at.new.seats.items) c.deref.ensures.value c.visit_at.ensures.seats; msgqs = c.requires.served.msgqs; signals = c.requires.served.signals; chans = c.requires.served.chans; observers = c.requires.served.observers; })
+
+pub returns-in_ok-made-in-Sem-clause-attempted : goal.returns-in_ok-made-in-Sem-clause-attempted
+returns-in_ok-made-in-Sem-clause-attempted g c =
+    let k = c.args.self.now.cells.now in
+    let old = desk_shown c.args.self.now.passes in
+    let object = c.in-Sem.object in
+    let made = c.in_ok-made-in-Sem in
+    let told : option_map (λ (m : SemReply × ℕ). step_replies.Sem object m.0 m.1) made.made ≡ c.map-in-Sem.result = search rules in
+    attempted-many (family sem_machine sem_start k.sems.items) (cells_machines k) c.args.who c.args.number object c.in-Sem.op (steps.Sem object c.in-Sem.op) step_replies.Sem old
+    (λ hs. record old { sems = hs }) old.sems (grows-sems c.args.who.number old) (λ hs. refl) (λ hs r place. tt) (λ hs r place. refl)
+    (seen_all c.visit_at.new.seats.items) made.made _ _ (subst (λ cs. VisitedAt (family sem_machine sem_start cs) c.args.who c.args.number object c.in-Sem.op old.sems (seen_all c.visit_at.new.seats.items) (Ok made.made)) c.deref.ensures.value made.ensures.visited) c.in-Sem.is told
+
+pub returns-in_ok-made-in-Sem-clause-serves : goal.returns-in_ok-made-in-Sem-clause-serves
+returns-in_ok-made-in-Sem-clause-serves g c =
+    let p = c.args.self.now.passes in
+    same-players c.args.self.now.cells.now p (record p { sems = c.visit_at.new.seats }) c.args.who c.requires.served
+    (record { work = c.requires.served.work; clock = c.requires.served.clock; table = c.requires.served.table; sems = subst (λ cs. AreSeats (IsLegal sem_machine) sem_start c.args.who cs c.visit_at.new.seats.items) c.deref.ensures.value c.visit_at.ensures.seats; msgqs = c.requires.served.msgqs; signals = c.requires.served.signals; chans = c.requires.served.chans; observers = c.requires.served.observers; })
+
+pub visit_at-requires-in-Msgq-clause-later : goal.visit_at-requires-in-Msgq-clause-later
+visit_at-requires-in-Msgq-clause-later g c = λ h there.
+    above-msgqs (desk_shown c.args.self.now.passes) c.args.who.number c.args.number c.in-Msgq.object h there c.requires.later
+
+pub returns-in_err-made-in-Msgq-clause-attempted : goal.returns-in_err-made-in-Msgq-clause-attempted
+returns-in_err-made-in-Msgq-clause-attempted g c =
+    let p = c.args.self.now.passes in
+    when-err (cells_machines c.args.self.now.cells.now) c.args.who c.args.number c.args.step.now (desk_shown p) (desk_shown (record p { msgqs = c.visit_at-in-Msgq.new.seats })) c.from_residual-in_err-made-in-Msgq.result c.from_residual-in_err-made-in-Msgq.ensures.0
+    (grows-msgqs c.args.who.number (desk_shown p) (seen_all c.visit_at-in-Msgq.new.seats.items) c.in_err-made-in-Msgq.ensures.visited)
+
+pub returns-in_err-made-in-Msgq-clause-serves : goal.returns-in_err-made-in-Msgq-clause-serves
+returns-in_err-made-in-Msgq-clause-serves g c =
+    let p = c.args.self.now.passes in
+    same-players c.args.self.now.cells.now p (record p { msgqs = c.visit_at-in-Msgq.new.seats }) c.args.who c.requires.served
+    (record { work = c.requires.served.work; clock = c.requires.served.clock; table = c.requires.served.table; sems = c.requires.served.sems; msgqs = subst (λ cs. AreSeats (IsLegal msgq_machine) msgq_start c.args.who cs c.visit_at-in-Msgq.new.seats.items) c.deref-in-Msgq.ensures.value c.visit_at-in-Msgq.ensures.seats; signals = c.requires.served.signals; chans = c.requires.served.chans; observers = c.requires.served.observers; })
+
+pub returns-in_ok-made-in-Msgq-clause-attempted : goal.returns-in_ok-made-in-Msgq-clause-attempted
+returns-in_ok-made-in-Msgq-clause-attempted g c =
+    let k = c.args.self.now.cells.now in
+    let old = desk_shown c.args.self.now.passes in
+    let object = c.in-Msgq.object in
+    let made = c.in_ok-made-in-Msgq in
+    let told : option_map (λ (m : MsgqReply × ℕ). step_replies.Msgq object m.0 m.1) made.made ≡ c.map-in-Msgq.result = search rules in
+    attempted-many (family msgq_machine msgq_start k.msgqs.items) (cells_machines k) c.args.who c.args.number object c.in-Msgq.op (steps.Msgq object c.in-Msgq.op) step_replies.Msgq old
+    (λ hs. record old { msgqs = hs }) old.msgqs (grows-msgqs c.args.who.number old) (λ hs. refl) (λ hs r place. tt) (λ hs r place. refl)
+    (seen_all c.visit_at-in-Msgq.new.seats.items) made.made _ _ (subst (λ cs. VisitedAt (family msgq_machine msgq_start cs) c.args.who c.args.number object c.in-Msgq.op old.msgqs (seen_all c.visit_at-in-Msgq.new.seats.items) (Ok made.made)) c.deref-in-Msgq.ensures.value made.ensures.visited) c.in-Msgq.is told
+
+pub returns-in_ok-made-in-Msgq-clause-serves : goal.returns-in_ok-made-in-Msgq-clause-serves
+returns-in_ok-made-in-Msgq-clause-serves g c =
+    let p = c.args.self.now.passes in
+    same-players c.args.self.now.cells.now p (record p { msgqs = c.visit_at-in-Msgq.new.seats }) c.args.who c.requires.served
+    (record { work = c.requires.served.work; clock = c.requires.served.clock; table = c.requires.served.table; sems = c.requires.served.sems; msgqs = subst (λ cs. AreSeats (IsLegal msgq_machine) msgq_start c.args.who cs c.visit_at-in-Msgq.new.seats.items) c.deref-in-Msgq.ensures.value c.visit_at-in-Msgq.ensures.seats; signals = c.requires.served.signals; chans = c.requires.served.chans; observers = c.requires.served.observers; })
+
+pub visit_at-requires-in-Signal-clause-later : goal.visit_at-requires-in-Signal-clause-later
+visit_at-requires-in-Signal-clause-later g c = λ h there.
+    above-signals (desk_shown c.args.self.now.passes) c.args.who.number c.args.number c.in-Signal.object h there c.requires.later
+
+pub returns-in_err-made-in-Signal-clause-attempted : goal.returns-in_err-made-in-Signal-clause-attempted
+returns-in_err-made-in-Signal-clause-attempted g c =
+    let p = c.args.self.now.passes in
+    when-err (cells_machines c.args.self.now.cells.now) c.args.who c.args.number c.args.step.now (desk_shown p) (desk_shown (record p { signals = c.visit_at-in-Signal.new.seats })) c.from_residual-in_err-made-in-Signal.result c.from_residual-in_err-made-in-Signal.ensures.0
+    (grows-signals c.args.who.number (desk_shown p) (seen_all c.visit_at-in-Signal.new.seats.items) c.in_err-made-in-Signal.ensures.visited)
+
+pub returns-in_err-made-in-Signal-clause-serves : goal.returns-in_err-made-in-Signal-clause-serves
+returns-in_err-made-in-Signal-clause-serves g c =
+    let p = c.args.self.now.passes in
+    same-players c.args.self.now.cells.now p (record p { signals = c.visit_at-in-Signal.new.seats }) c.args.who c.requires.served
+    (record { work = c.requires.served.work; clock = c.requires.served.clock; table = c.requires.served.table; sems = c.requires.served.sems; msgqs = c.requires.served.msgqs; signals = subst (λ cs. AreSeats (IsLegal signal_machine) signal_start c.args.who cs c.visit_at-in-Signal.new.seats.items) c.deref-in-Signal.ensures.value c.visit_at-in-Signal.ensures.seats; chans = c.requires.served.chans; observers = c.requires.served.observers; })
+
+pub returns-in_ok-made-in-Signal-clause-attempted : goal.returns-in_ok-made-in-Signal-clause-attempted
+returns-in_ok-made-in-Signal-clause-attempted g c =
+    let k = c.args.self.now.cells.now in
+    let old = desk_shown c.args.self.now.passes in
+    let object = c.in-Signal.object in
+    let made = c.in_ok-made-in-Signal in
+    let told : option_map (λ (m : SignalReply × ℕ). step_replies.Signal object m.0 m.1) made.made ≡ c.map-in-Signal.result = search rules in
+    attempted-many (family signal_machine signal_start k.signals.items) (cells_machines k) c.args.who c.args.number object c.in-Signal.op (steps.Signal object c.in-Signal.op) step_replies.Signal old
+    (λ hs. record old { signals = hs }) old.signals (grows-signals c.args.who.number old) (λ hs. refl) (λ hs r place. tt) (λ hs r place. refl)
+    (seen_all c.visit_at-in-Signal.new.seats.items) made.made _ _ (subst (λ cs. VisitedAt (family signal_machine signal_start cs) c.args.who c.args.number object c.in-Signal.op old.signals (seen_all c.visit_at-in-Signal.new.seats.items) (Ok made.made)) c.deref-in-Signal.ensures.value made.ensures.visited) c.in-Signal.is told
+
+pub returns-in_ok-made-in-Signal-clause-serves : goal.returns-in_ok-made-in-Signal-clause-serves
+returns-in_ok-made-in-Signal-clause-serves g c =
+    let p = c.args.self.now.passes in
+    same-players c.args.self.now.cells.now p (record p { signals = c.visit_at-in-Signal.new.seats }) c.args.who c.requires.served
+    (record { work = c.requires.served.work; clock = c.requires.served.clock; table = c.requires.served.table; sems = c.requires.served.sems; msgqs = c.requires.served.msgqs; signals = subst (λ cs. AreSeats (IsLegal signal_machine) signal_start c.args.who cs c.visit_at-in-Signal.new.seats.items) c.deref-in-Signal.ensures.value c.visit_at-in-Signal.ensures.seats; chans = c.requires.served.chans; observers = c.requires.served.observers; })
+
+pub visit_at-requires-in-Chan-clause-later : goal.visit_at-requires-in-Chan-clause-later
+visit_at-requires-in-Chan-clause-later g c = λ h there.
+    above-chans (desk_shown c.args.self.now.passes) c.args.who.number c.args.number c.in-Chan.object h there c.requires.later
+
+pub returns-in_err-made-in-Chan-clause-attempted : goal.returns-in_err-made-in-Chan-clause-attempted
+returns-in_err-made-in-Chan-clause-attempted g c =
+    let p = c.args.self.now.passes in
+    when-err (cells_machines c.args.self.now.cells.now) c.args.who c.args.number c.args.step.now (desk_shown p) (desk_shown (record p { chans = c.visit_at-in-Chan.new.seats })) c.from_residual-in_err-made-in-Chan.result c.from_residual-in_err-made-in-Chan.ensures.0
+    (grows-chans c.args.who.number (desk_shown p) (seen_all c.visit_at-in-Chan.new.seats.items) c.in_err-made-in-Chan.ensures.visited)
+
+pub returns-in_err-made-in-Chan-clause-serves : goal.returns-in_err-made-in-Chan-clause-serves
+returns-in_err-made-in-Chan-clause-serves g c =
+    let p = c.args.self.now.passes in
+    same-players c.args.self.now.cells.now p (record p { chans = c.visit_at-in-Chan.new.seats }) c.args.who c.requires.served
+    (record { work = c.requires.served.work; clock = c.requires.served.clock; table = c.requires.served.table; sems = c.requires.served.sems; msgqs = c.requires.served.msgqs; signals = c.requires.served.signals; chans = subst (λ cs. AreSeats (IsLegal chan_machine) chan_start c.args.who cs c.visit_at-in-Chan.new.seats.items) c.deref-in-Chan.ensures.value c.visit_at-in-Chan.ensures.seats; observers = c.requires.served.observers; })
+
+pub returns-in_ok-made-in-Chan-clause-attempted : goal.returns-in_ok-made-in-Chan-clause-attempted
+returns-in_ok-made-in-Chan-clause-attempted g c =
+    let k = c.args.self.now.cells.now in
+    let old = desk_shown c.args.self.now.passes in
+    let object = c.in-Chan.object in
+    let made = c.in_ok-made-in-Chan in
+    let told : option_map (λ (m : ChanReply × ℕ). step_replies.Chan object m.0 m.1) made.made ≡ c.map-in-Chan.result = search rules in
+    attempted-many (family chan_machine chan_start k.chans.items) (cells_machines k) c.args.who c.args.number object c.in-Chan.op (steps.Chan object c.in-Chan.op) step_replies.Chan old
+    (λ hs. record old { chans = hs }) old.chans (grows-chans c.args.who.number old) (λ hs. refl) (λ hs r place. tt) (λ hs r place. refl)
+    (seen_all c.visit_at-in-Chan.new.seats.items) made.made _ _ (subst (λ cs. VisitedAt (family chan_machine chan_start cs) c.args.who c.args.number object c.in-Chan.op old.chans (seen_all c.visit_at-in-Chan.new.seats.items) (Ok made.made)) c.deref-in-Chan.ensures.value made.ensures.visited) c.in-Chan.is told
+
+pub returns-in_ok-made-in-Chan-clause-serves : goal.returns-in_ok-made-in-Chan-clause-serves
+returns-in_ok-made-in-Chan-clause-serves g c =
+    let p = c.args.self.now.passes in
+    same-players c.args.self.now.cells.now p (record p { chans = c.visit_at-in-Chan.new.seats }) c.args.who c.requires.served
+    (record { work = c.requires.served.work; clock = c.requires.served.clock; table = c.requires.served.table; sems = c.requires.served.sems; msgqs = c.requires.served.msgqs; signals = c.requires.served.signals; chans = subst (λ cs. AreSeats (IsLegal chan_machine) chan_start c.args.who cs c.visit_at-in-Chan.new.seats.items) c.deref-in-Chan.ensures.value c.visit_at-in-Chan.ensures.seats; observers = c.requires.served.observers; })
+
+pub visit_at-requires-in-Obs-clause-later : goal.visit_at-requires-in-Obs-clause-later
+visit_at-requires-in-Obs-clause-later g c = λ h there.
+    above-observers (desk_shown c.args.self.now.passes) c.args.who.number c.args.number c.in-Obs.object h there c.requires.later
+
+pub returns-in_err-made-in-Obs-clause-attempted : goal.returns-in_err-made-in-Obs-clause-attempted
+returns-in_err-made-in-Obs-clause-attempted g c =
+    let p = c.args.self.now.passes in
+    when-err (cells_machines c.args.self.now.cells.now) c.args.who c.args.number c.args.step.now (desk_shown p) (desk_shown (record p { observers = c.visit_at-in-Obs.new.seats })) c.from_residual-in_err-made-in-Obs.result c.from_residual-in_err-made-in-Obs.ensures.0
+    (grows-observers c.args.who.number (desk_shown p) (seen_all c.visit_at-in-Obs.new.seats.items) c.in_err-made-in-Obs.ensures.visited)
+
+pub returns-in_err-made-in-Obs-clause-serves : goal.returns-in_err-made-in-Obs-clause-serves
+returns-in_err-made-in-Obs-clause-serves g c =
+    let p = c.args.self.now.passes in
+    same-players c.args.self.now.cells.now p (record p { observers = c.visit_at-in-Obs.new.seats }) c.args.who c.requires.served
+    (record { work = c.requires.served.work; clock = c.requires.served.clock; table = c.requires.served.table; sems = c.requires.served.sems; msgqs = c.requires.served.msgqs; signals = c.requires.served.signals; chans = c.requires.served.chans; observers = subst (λ cs. AreSeats (IsLegal obs_machine) obs_start c.args.who cs c.visit_at-in-Obs.new.seats.items) c.deref-in-Obs.ensures.value c.visit_at-in-Obs.ensures.seats; })
+
+pub returns-in_ok-made-in-Obs-clause-attempted : goal.returns-in_ok-made-in-Obs-clause-attempted
+returns-in_ok-made-in-Obs-clause-attempted g c =
+    let k = c.args.self.now.cells.now in
+    let old = desk_shown c.args.self.now.passes in
+    let object = c.in-Obs.object in
+    let made = c.in_ok-made-in-Obs in
+    let told : option_map (λ (m : ObsReply × ℕ). step_replies.Obs object m.0 m.1) made.made ≡ c.map-in-Obs.result = search rules in
+    attempted-many (family obs_machine obs_start k.observers.items) (cells_machines k) c.args.who c.args.number object c.in-Obs.op (steps.Obs object c.in-Obs.op) step_replies.Obs old
+    (λ hs. record old { observers = hs }) old.observers (grows-observers c.args.who.number old) (λ hs. refl) (λ hs r place. tt) (λ hs r place. refl)
+    (seen_all c.visit_at-in-Obs.new.seats.items) made.made _ _ (subst (λ cs. VisitedAt (family obs_machine obs_start cs) c.args.who c.args.number object c.in-Obs.op old.observers (seen_all c.visit_at-in-Obs.new.seats.items) (Ok made.made)) c.deref-in-Obs.ensures.value made.ensures.visited) c.in-Obs.is told
+
+pub returns-in_ok-made-in-Obs-clause-serves : goal.returns-in_ok-made-in-Obs-clause-serves
+returns-in_ok-made-in-Obs-clause-serves g c =
+    let p = c.args.self.now.passes in
+    same-players c.args.self.now.cells.now p (record p { observers = c.visit_at-in-Obs.new.seats }) c.args.who c.requires.served
+    (record { work = c.requires.served.work; clock = c.requires.served.clock; table = c.requires.served.table; sems = c.requires.served.sems; msgqs = c.requires.served.msgqs; signals = c.requires.served.signals; chans = c.requires.served.chans; observers = subst (λ cs. AreSeats (IsLegal obs_machine) obs_start c.args.who cs c.visit_at-in-Obs.new.seats.items) c.deref-in-Obs.ensures.value c.visit_at-in-Obs.ensures.seats; })
+
+pub look-word-requires-clause-later : goal.look-word-requires-clause-later
+look-word-requires-clause-later g c = above-work (desk_shown c.args.self.now.passes) c.args.who.number c.args.number c.requires.later
+
+pub see_at-seen-requires-clause-later : goal.see_at-seen-requires-clause-later
+see_at-seen-requires-clause-later g c = λ h there.
+    above-signals (desk_shown c.args.self.now.passes) c.args.who.number c.args.number c.in-LookSignal.object h there c.requires.later
+
+pub returns-in-LookItem-clause-attempted : goal.returns-in-LookItem-clause-attempted
+returns-in-LookItem-clause-attempted g c =
+    let k = c.args.self.now.cells.now in
+    looked-item k c.args.self.now.passes c.args.who c.args.number c.in-LookItem.object c.item_at-item.result c.look-word.result.0 c.look-word.result.1 _ c.look-word.new.seat c.look-word.ensures.grew
+    c.item_at-item.ensures (rw c.in-LookItem.is at c.requires.range) c.look-word.ensures.word c.look-word.ensures.place c.in-LookItem.is
+
+pub returns-in-LookSignal-clause-attempted : goal.returns-in-LookSignal-clause-attempted
+returns-in-LookSignal-clause-attempted g c =
+    let old = desk_shown c.args.self.now.passes in
+    looked-signal (cells_machines c.args.self.now.cells.now) c.args.who c.args.number c.in-LookSignal.object c.in-LookSignal.must old refl (seen_all c.see_at-seen.new.seats.items) c.see_at-seen.result _ c.told.result
+    c.see_at-seen.ensures.seen c.told.ensures c.in-LookSignal.is
+
+pub returns-in-LookSignal-clause-serves : goal.returns-in-LookSignal-clause-serves
+returns-in-LookSignal-clause-serves g c =
+    let p = c.args.self.now.passes in
+    same-players c.args.self.now.cells.now p (record p { signals = c.see_at-seen.new.seats }) c.args.who c.requires.served
+    (record { work = c.requires.served.work; clock = c.requires.served.clock; table = c.requires.served.table; sems = c.requires.served.sems; msgqs = c.requires.served.msgqs; signals = subst (λ cs. AreSeats (IsLegal signal_machine) signal_start c.args.who cs c.see_at-seen.new.seats.items) c.deref-in-LookSignal.ensures.value c.see_at-seen.ensures.seats; chans = c.requires.served.chans; observers = c.requires.served.observers; })

@@ -1,0 +1,90 @@
+-- A caller at the cells of a kernel, as the services that it plays on.
+use Rattle.std.specs.Prelude.{◌≡◌, ℕ, ◌-◌, ◌^◌, min, List, Option, None}
+use Rattle.zk_base.specs.declared.ids.Who.{Who}
+use Rattle.zk_base.specs.Legal.{IsLegal}
+use Rattle.zk_model_wait.specs.Clock.{clock_machine}
+use Rattle.zk_model_wait.specs.Sem.{sem_machine}
+use Rattle.zk_model_wait.specs.Msgq.{msgq_machine}
+use Rattle.zk_model_wait.specs.Signal.{signal_machine}
+use Rattle.zk_model_bus.specs.Channel.{chan_machine}
+use Rattle.zk_model_bus.specs.Observer.{obs_machine}
+use Rattle.zk_model_bus.specs.Table.{table_machine}
+use Rattle.zk_model_work.specs.Machine.{work_machine}
+use Rattle.zk_bus.specs.Seen.{chan_start}
+use Rattle.zk_msgq.specs.Seen.{msgq_start}
+use Rattle.zk_objects.specs.Seen.{objects_start}
+use Rattle.zk_poll.specs.Seen.{signal_start}
+use Rattle.zk_sem.specs.Seen.{sem_start}
+use Rattle.zk_subq.specs.Seen.{obs_start}
+use Rattle.zk_time.specs.ClockSeen.{clock_start}
+use Rattle.zk_work.specs.Seen.{work_start}
+use Rattle.zk_turn.specs.Passes.{given_to}
+use Rattle.zk_worker.specs.declared.steps.Step.{Step}
+use Rattle.zk_worker.specs.declared.steps.Step.TheVariants as steps
+use Rattle.zk_worker.specs.Machines.{Machines}
+use Rattle.zk_worker.specs.Shown.{Shown}
+use Rattle.zk_worker.specs.Attempt.{Counts}
+use Rattle.zk_kernel.specs.declared.cells.Cells.{Cells}
+use Rattle.zk_kernel.specs.declared.passes.Passes.{Passes}
+use Rattle.zk_kernel.specs.Seats.{IsAt, seen_at, holds_at}
+use Rattle.zk_kernel.specs.Rows.{family, seen_all, holds_in, AreSeats}
+
+-- the machine of each cell, and the state that it was made in
+abbrev pub cells_machines : Cells → Machines
+cells_machines k = record {
+  work = work_machine;
+  work_start = work_start (given_to k.work);
+  items = k.items.items;
+  clock = clock_machine;
+  clock_start = clock_start (given_to k.clock);
+  table = table_machine;
+  table_start = objects_start (given_to k.table);
+  sems = family sem_machine sem_start k.sems.items;
+  msgqs = family msgq_machine msgq_start k.msgqs.items;
+  signals = family signal_machine signal_start k.signals.items;
+  chans = family chan_machine chan_start k.chans.items;
+  observers = family obs_machine obs_start k.observers.items;
+}
+
+-- the passes are this player's, one of each cell
+pub record IsServed (k : Cells) (p : Passes) (who : Who) : Type 0 where
+  pub work : IsAt (IsLegal work_machine) work_start k.work who p.work
+  pub clock : IsAt (IsLegal clock_machine) clock_start k.clock who p.clock
+  pub table : IsAt (IsLegal table_machine) objects_start k.table who p.table
+  pub sems : AreSeats (IsLegal sem_machine) sem_start who k.sems.items p.sems.items
+  pub msgqs : AreSeats (IsLegal msgq_machine) msgq_start who k.msgqs.items p.msgqs.items
+  pub signals : AreSeats (IsLegal signal_machine) signal_start who k.signals.items p.signals.items
+  pub chans : AreSeats (IsLegal chan_machine) chan_start who k.chans.items p.chans.items
+  pub observers : AreSeats (IsLegal obs_machine) obs_start who k.observers.items p.observers.items
+
+-- what the passes have seen of each service: looks are made under a turn, so none is shown apart
+abbrev pub desk_shown : Passes → Shown
+desk_shown p = record {
+  work = seen_at p.work;
+  clock = seen_at p.clock;
+  table = seen_at p.table;
+  sems = seen_all p.sems.items;
+  msgqs = seen_all p.msgqs.items;
+  signals = seen_all p.signals.items;
+  chans = seen_all p.chans.items;
+  observers = seen_all p.observers.items;
+  looks = None;
+  looked = None;
+}
+
+-- a count as far as 64 bits hold it
+abbrev pub capped : ℕ → ℕ
+capped n = min n (2 ^ 64 - 1)
+
+-- how many turns the passes had
+abbrev pub desk_counts : Passes → Counts
+desk_counts p (steps.Work op) = capped (holds_at p.work)
+desk_counts p (steps.Clock op) = capped (holds_at p.clock)
+desk_counts p (steps.Table op) = capped (holds_at p.table)
+desk_counts p (steps.Sem object op) = capped (holds_in p.sems.items object)
+desk_counts p (steps.Msgq object op) = capped (holds_in p.msgqs.items object)
+desk_counts p (steps.Signal object op) = capped (holds_in p.signals.items object)
+desk_counts p (steps.Chan object op) = capped (holds_in p.chans.items object)
+desk_counts p (steps.Obs object op) = capped (holds_in p.observers.items object)
+desk_counts p (steps.LookItem object) = capped (holds_at p.work)
+desk_counts p (steps.LookSignal object must) = capped (holds_in p.signals.items object)

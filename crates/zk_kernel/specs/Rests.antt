@@ -1,0 +1,44 @@
+-- What is left of a kernel after its callers.
+use Rattle.std.specs.Prelude.{◌≡◌, ℕ, true, Some, List, length, map, slice_get, slice_set, All}
+use Rattle.zk_scenario.specs.Content.{Content}
+use Rattle.zk_scenario.specs.Players.{players}
+use Rattle.zk_worker.specs.declared.playing.Stepped.{Stepped}
+use Rattle.zk_worker.specs.Attempt.{Counts}
+use Rattle.zk_worker.specs.Machines.{machines_of}
+use Rattle.zk_worker.specs.Places.{PlayerPlace}
+use Rattle.zk_worker.specs.Playing.{StepOutcome}
+use Rattle.zk_world.specs.Sound.{IsSound}
+use Rattle.zk_world.specs.World.{World}
+use Rattle.zk_kernel.specs.declared.caller.Caller.{Caller}
+use Rattle.zk_kernel.specs.Callers.{IsCaller, place_of}
+use Rattle.zk_kernel.specs.Kernels.{Shared}
+
+-- what is left: the scenario, what the services show, and where each player stands
+pub record Left : Type 0 where
+  pub scenario : Content
+  pub world : World
+
+-- these are all the callers that a kernel was made with, in the order of their numbers
+pub record AreAllCallers (k : Shared) (callers : List Caller) : Type 0 where
+  pub own : All (IsCaller k) callers
+  pub all : length callers ≡ length (players k.scenario.decls)
+  pub numbers : (p : ℕ) (c : Caller) → slice_get callers p ≡ Some c → (place_of c).who.number ≡ p
+
+-- what a kernel leaves whose callers came to these ends: each player stands where its caller left it. (What the services
+-- show then is told by `IsSound`: of each player just its log, and no other entry)
+pub record HasClosed (k : Shared) (callers : List Caller) (left : Left) : Type 0 where
+  pub scenario : left.scenario ≡ k.scenario
+  pub players : left.world.players ≡ map place_of callers
+  pub sound : IsSound left.scenario left.world
+
+-- a player of what is left made a step, or none for the cause that is told; all other players stand as they stood
+pub record HasGoneOn (old new : Left) (player : ℕ) (stepped : Stepped) : Type 0 where
+  pub scenario : new.scenario ≡ old.scenario
+  pub at : PlayerPlace
+  pub at' : PlayerPlace
+  pub there : slice_get old.world.players player ≡ Some at
+  pub players : new.world.players ≡ slice_set old.world.players player at'
+  pub counts : Counts
+  pub counts' : Counts
+  pub outcome : StepOutcome true (machines_of old.scenario) old.scenario at at' old.world.shown new.world.shown
+      counts counts' stepped

@@ -1,0 +1,62 @@
+ghost use Rattle.std.specs.Prelude.{◌≡◌};
+ghost use Rattle.zk_scenario.specs.Valid.{IsValid};
+ghost use Rattle.zk_kernel.specs.Kernels.{IsMadeFor};
+
+use crate::cells::Cells;
+use std::marker::Model;
+use zk_scenario::Scenario;
+
+/// The services of a scenario, which the threads of its players share by reference.
+///
+/// Each service has a cell, and a caller one turn at one of them at a time. A kernel takes the callers that it was made
+/// with, and no others.
+#[derive(Drop)]
+pub struct Kernel {
+    cells: Cells,
+    scenario: Scenario,
+}
+
+impl Model for Kernel {
+    ghost use Rattle.zk_kernel.specs.Kernels.{Shared, IsMadeFor};
+
+    ghost Value = { Shared };
+
+    ghost view = { λ k. record { cells = k.cells; scenario = k.scenario } };
+
+    ghost invariant = { λ k. IsMadeFor k.cells k.scenario };
+}
+
+impl Kernel {
+    /// These services, which are those of this scenario.
+    pub(crate) fn of(cells: Cells, scenario: Scenario) -> Kernel
+        requires { IsMadeFor cells scenario }
+        ensures { result ≡ record { cells = cells; scenario = scenario } }
+    {
+        Kernel { cells, scenario }
+    }
+
+    /// The services, each in its cell.
+    pub(crate) fn cells(&self) -> &Cells
+        ensures cells { result.now ≡ self.now.cells }
+        ensures made { IsMadeFor self.now.cells self.now.scenario }
+    {
+        &self.cells
+    }
+
+    /// The scenario that the kernel was made for.
+    pub fn scenario(&self) -> &Scenario
+        ensures scenario { result.now ≡ self.now.scenario }
+        ensures valid { IsValid self.now.scenario }
+    {
+        &self.scenario
+    }
+
+    /// The services and the scenario.
+    pub(crate) fn into_parts(self) -> (Cells, Scenario)
+        ensures cells { result.0 ≡ self.cells }
+        ensures scenario { result.1 ≡ self.scenario }
+        ensures made { IsMadeFor self.cells self.scenario }
+    {
+        (self.cells, self.scenario)
+    }
+}

@@ -1,0 +1,19 @@
+//! The kernel that threads share: each service of a scenario in a cell, and a caller for each player.
+#![tactic(auto)]
+
+mod at_cell;
+mod at_cells;
+mod caller;
+mod cells;
+mod close;
+mod desk;
+mod emptying;
+mod joining;
+mod kernel;
+mod looking;
+mod passes;
+mod rest;
+
+pub use caller::Caller;
+pub use kernel::Kernel;
+pub use rest::Rest;

@@ -1,0 +1,16 @@
+pub mod AheadSays
+pub mod Beginning
+pub mod DeadPlayers
+pub mod Fitting
+pub mod Histories
+pub mod InForm
+pub mod Joining
+pub mod Lawful
+pub mod Legality
+pub mod OpsFit
+pub mod Places
+pub mod Players
+pub mod Readiness
+pub mod Requested
+pub mod Sound
+pub mod Within

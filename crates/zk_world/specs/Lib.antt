@@ -1,0 +1,10 @@
+pub mod World
+pub mod Within
+pub mod Ready
+pub mod Chosen
+pub mod Legal
+pub mod Says
+pub mod Requests
+pub mod Sound
+pub mod SoundPlayer
+pub mod Traces
