@@ -1,6 +1,7 @@
 pub mod Callers
 pub mod Calls
 pub mod Closed
+pub mod Dealt
 pub mod Desks
 pub mod Joined
 pub mod Kernels

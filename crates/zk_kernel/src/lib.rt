@@ -7,6 +7,7 @@ mod caller;
 mod calling;
 mod cells;
 mod close;
+mod dealing;
 mod desk;
 mod emptying;
 mod joining;
