@@ -33,7 +33,7 @@ use Rattle.zk_turn.specs.declared.pass.Pass.{Pass}
 use Rattle.zk_turn.specs.Passes.{given_to}
 use Rattle.zk_worker.specs.declared.steps.Step.TheVariants as steps
 use Rattle.zk_worker.specs.declared.steps.StepReply.TheVariants as step_replies
-use Rattle.zk_worker.specs.Looks.{look, look_at, looks_at, found_by}
+use Rattle.zk_worker.specs.Looks.{look_reply, look_at, looks_at, found_by}
 use Rattle.zk_worker.specs.Machines.{item_of}
 use Rattle.zk_worker.specs.Attempt.{IsMade, is_in_range}
 use Rattle.zk_worker.proofs.Looking.{reads-whole}
@@ -129,7 +129,7 @@ looked-item k p who number object item word at step seat grew is taken told end 
 
 -- a look at a signal, under a turn
 pub looked-signal : (m : Machines) (who : Who) (number object : ℕ) (must : Bool) (old : Shown) (whole : old.looks ≡ None) (hs : List (List (Entry SignalOp SignalReply))) (seen : Seen) (step : Step) (told : Option StepReply) →
-    IsSeenAt who.number object old.signals hs seen → told ≡ look must seen → step ≡ steps.LookSignal object must → Attempted false m who number step old (record old { signals = hs }) (Ok told)
+    IsSeenAt who.number object old.signals hs seen → told ≡ look_reply must seen → step ≡ steps.LookSignal object must → Attempted false m who number step old (record old { signals = hs }) (Ok told)
 looked-signal m who number object must old whole hs seen step told looked tells asked =
     subst (λ (s : Step). Attempted false m who number s old (record old { signals = hs }) (Ok told)) (sym asked) (by told answered)
   where
@@ -138,8 +138,8 @@ looked-signal m who number object must old whole hs seen step told looked tells 
 
     answered : look_at old.looks hs object must ≡ told
     answered = ap (λ (l : Option (List (List Seen))). look_at l hs object must) whole
-        ∙ ap (λ (o : Option (List (Entry SignalOp SignalReply))). option_and_then (λ h. option_and_then (look must) (found_by (looks_at None object) h)) o) looked.there
-        ∙ ap (look must) (sym looked.found) ∙ sym tells
+        ∙ ap (λ (o : Option (List (Entry SignalOp SignalReply))). option_and_then (λ h. option_and_then (look_reply must) (found_by (looks_at None object) h)) o) looked.there
+        ∙ ap (look_reply must) (sym looked.found) ∙ sym tells
 
     by : (told : Option StepReply) → look_at old.looks hs object must ≡ told → Attempted false m who number (steps.LookSignal object must) old (record old { signals = hs }) (Ok told)
     by None is = (grows-signals who.number old hs looked.grew, is)

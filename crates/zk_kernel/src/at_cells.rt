@@ -9,7 +9,7 @@ ghost use Rattle.zk_worker.specs.Families.{takes_at};
 ghost use Rattle.zk_kernel.specs.Seats.{Visited, seen_at, holds_at};
 ghost use Rattle.zk_kernel.specs.Rows.{family, seen_all, holds_in, IsSeat, AreSeats, takes_in, VisitedAt};
 
-use crate::one::visit;
+use crate::at_cell::visit;
 use std::sync::Wait;
 use zk_base::{NoMemory, Service, Who};
 use zk_turn::{Cell, Pass};

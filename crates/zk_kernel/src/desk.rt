@@ -1,7 +1,7 @@
 ghost use Rattle.std.specs.Prelude.{◌≡◌, true, Some};
 ghost use Rattle.zk_worker.specs.Attempt.{is_in_range};
 ghost use Rattle.zk_worker.specs.declared.steps.Step.TheVariants.{LookItem};
-ghost use Rattle.zk_worker.specs.Looks.{look};
+ghost use Rattle.zk_worker.specs.Looks.{look_reply};
 ghost use Rattle.zk_worker.specs.Machines.{item_of};
 ghost use Rattle.zk_kernel.specs.Desks as desks;
 
@@ -93,7 +93,7 @@ impl<'a, R: Wait> Services for Desk<'a, R> {
 
 /// What a look that found this is answered: nothing where it has to find the signal raised and doesn't.
 fn told(must: bool, seen: Seen) -> Option<StepReply>
-    ensures { result ≡ look must seen }
+    ensures { result ≡ look_reply must seen }
 {
     if must && !seen.raised {
         return None;

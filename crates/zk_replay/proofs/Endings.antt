@@ -1,10 +1,9 @@
 -- Where a run has ended no admission waits or runs.
-use Rattle.std.proofs.Common.{◌≡◌, ℕ, zero, suc, ◌+◌, ◌<◌, ◌∙◌, Bool, true, false, not, ◌&&◌, cond, eqb, eq-eqb, nat_lt, Option, Some, None, List, [], ◌∷◌, length, map, All, refl, sym, ap, subst, arith, length-append}
-use Rattle.std.specs.List.{slice_get, list_all}
+use Rattle.std.proofs.Common.{◌≡◌, ℕ, ◌+◌, ◌<◌, ◌∙◌, Bool, true, false, ◌&&◌, cond, eqb, eq-eqb, nat_lt, Option, Some, None, List, [], ◌∷◌, length, All, refl, sym, ap, subst, arith, length-append}
+use Rattle.std.specs.List.{slice_get}
 use Rattle.std.specs.Option.{option_map}
 use Rattle.std.proofs.lemmas.Bool.Decides.{nat_tests}
 use Rattle.std.proofs.lemmas.List.{length-set}
-use Rattle.std.proofs.lemmas.List.Elements.{All-head, All-tail}
 use Rattle.zk_base.proofs.Lists.{and_second, All-at, list_all-at}
 use Rattle.zk_base.specs.Legal.{state_after}
 use Rattle.zk_model_work.specs.declared.ops.WorkOp.TheVariants as ops
@@ -35,7 +34,7 @@ use Rattle.zk_worker.specs.Protocol.{IsAhead, attempts, checks_first, frames_att
 use Rattle.zk_worker.specs.Ranges.{IsFit}
 use Rattle.zk_worker.proofs.Replied.{replied-fits}
 use Rattle.zk_worker.proofs.StageFits.{ProgressFits, frames_progress-fits}
-use Rattle.zk_worker.specs.Follows.{log_of, is_done, is_between, is_spent_at}
+use Rattle.zk_worker.specs.Follows.{is_done, is_between, is_spent_at}
 use Rattle.zk_worker.specs.Machines.{work_start_of, machines_of}
 use Rattle.zk_worker.specs.Attempt.{reply_in}
 use Rattle.zk_worker.proofs.Lists.{none-passes}
@@ -48,7 +47,7 @@ use Rattle.zk_world.specs.Ready.{IsReady}
 use Rattle.zk_world.specs.Traces.{all_done}
 use Rattle.zk_world.specs.World.{World, first, stepped, is_spent}
 use Rattle.zk_world.proofs.Beginning.{ready-first, first-there, first-players}
-use Rattle.zk_world.proofs.Lawful.{there-is}
+use Rattle.zk_world.proofs.Places.{there-is}
 use Rattle.zk_world.proofs.Readiness.{ready-stepped}
 use Rattle.zk_replay.specs.RoundRobin.{round, rounds, IsRun}
 use Rattle.zk_trace.specs.Ending.{none_waits}

@@ -7,7 +7,7 @@ ghost use Rattle.zk_worker.specs.Shown.{ShowsLog, AreShort};
 ghost use Rattle.zk_worker.specs.Right.{LooksRight};
 ghost use Rattle.zk_worker.specs.Choosing.{chosen};
 ghost use Rattle.zk_world.specs.Ready.{IsReady};
-ghost use Rattle.zk_world.specs.World.{World, world, is_spent};
+ghost use Rattle.zk_world.specs.World.{world, is_spent};
 ghost use Rattle.zk_replay.specs.RoundRobin.{turn, round, rounds};
 ghost use Rattle.zk_replay.specs.Turning.{made_step, IsAlone, IsTurn, Turned, Rounded};
 ghost use Rattle.zk_replay.specs.LastTurns.{IsKept, AreKept};

@@ -15,7 +15,7 @@ use Rattle.zk_model_work.specs.declared.parts.Arm.{Arm}
 use Rattle.zk_model_work.specs.declared.parts.Fate.TheVariants.{Live, Expired}
 use Rattle.zk_model_work.specs.declared.parts.Queue.{Queue}
 use Rattle.zk_model_work.specs.Answers.{submission}
-use Rattle.zk_model_work.specs.Machine.{is_among, submit, submission_in, submit_arms, disarm, arm, expire_one, expire, delayed, is_pending_in, schedule, announce, work_next}
+use Rattle.zk_model_work.specs.Machine.{is_among, submit, submission_in, submit_arms, disarm, arm, expire_one, delayed, is_pending_in, schedule, announce, work_next}
 use Rattle.zk_model_work.specs.Questions.{is_due, due, item_of}
 use Rattle.zk_model_work.specs.State.{State}
 use Rattle.zk_trace.specs.Fields.{IsItem, IsQueue, IsTarget}

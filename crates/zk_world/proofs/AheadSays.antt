@@ -25,7 +25,6 @@ use Rattle.zk_words.specs.Timeouts.{wait_fits}
 use Rattle.zk_words.specs.declared.timeout.Timeout.{Timeout}
 use Rattle.zk_words.specs.declared.timeout.Timeout.TheVariants.{No, Forever, Ticks}
 use Rattle.zk_model_bus.specs.declared.channel.ChanOp.TheVariants as chan_ops
-use Rattle.zk_model_bus.specs.declared.observer.ObsOp.TheVariants as obs_ops
 use Rattle.zk_model_wait.specs.declared.clock.ClockOp.TheVariants as clock_ops
 use Rattle.zk_model_wait.specs.declared.msgq.MsgqOp.TheVariants as msgq_ops
 use Rattle.zk_model_wait.specs.declared.sem.SemOp.TheVariants as sem_ops

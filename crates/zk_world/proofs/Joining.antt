@@ -21,7 +21,7 @@ use Rattle.zk_world.specs.Sound.{AreKnown, IsSound}
 use Rattle.zk_world.specs.SoundPlayer.{IsSoundPlayer}
 use Rattle.zk_world.specs.Within.{AreWithin}
 use Rattle.zk_world.specs.World.{world}
-use Rattle.zk_world.proofs.Lawful.{there-is}
+use Rattle.zk_world.proofs.Places.{there-is}
 use Rattle.zk_world.proofs.Requested.{request-shown}
 use Rattle.zk_world.proofs.Within.{within-more}
 

@@ -1,5 +1,5 @@
 -- The trace of a sound world is lawful, where it ends so.
-use Rattle.std.proofs.Common.{◌≡◌, ℕ, zero, suc, ◌≤◌, ◌<◌, Bool, true, false, ◌&&◌, ◌||◌, cond, Option, Some, None, List, [], ◌∷◌, length, map, refl, sym, ap, subst, ◌∙◌, arith}
+use Rattle.std.proofs.Common.{◌≡◌, ℕ, suc, ◌≤◌, Bool, true, false, ◌&&◌, ◌||◌, cond, Option, Some, None, List, [], ◌∷◌, length, map, refl, sym, ap, subst, ◌∙◌}
 use Rattle.std.specs.List.{slice_get, list_any, list_all}
 use Rattle.std.specs.Option.{option_map, option_and_then}
 use Rattle.std.proofs.lemmas.Bool.{or_parts}
@@ -34,6 +34,7 @@ use Rattle.zk_world.specs.Sound.{IsSound}
 use Rattle.zk_world.specs.Traces.{all_done, ending_at, world_trace, IsFaithful}
 use Rattle.zk_world.specs.World.{World, is_spent}
 use Rattle.zk_world.proofs.DeadPlayers.{dead-whole}
+use Rattle.zk_world.proofs.Places.{there-is}
 
 -- what the logs say of the players
 spent-state : (a d b : Bool) → is_spent_state (cond a states.Spent (cond d states.Oops (cond b states.Done states.Standing))) ≡ a
@@ -84,12 +85,6 @@ whole-same : (shown : Shown) → shown.looks ≡ None → shown.looked ≡ None 
 whole-same shown whole unlooked =
     ap (λ (looks : Option (List (List Seen))). record shown { looks = looks; looked = None }) (sym whole)
     ∙ ap (λ (looked : Option ℕ). record shown { looked = looked }) (sym unlooked)
-
--- where a list is long enough something is at a place
-pub there-is : {A : Type 0} (xs : List A) (p : ℕ) → p < length xs → (x : A) × (slice_get xs p ≡ Some x)
-there-is [] p within = absurd (omega arith)
-there-is (x ∷ xs) zero within = (x, refl)
-there-is (x ∷ xs) (suc p) within = there-is xs p (omega arith)
 
 module _ (s : Content) (ending : Ending) (w : World) (sound : IsSound s w) where
   abbrev trace : Trace

@@ -8,6 +8,7 @@ pub mod Joining
 pub mod Lawful
 pub mod Legality
 pub mod OpsFit
+pub mod Places
 pub mod Players
 pub mod Readiness
 pub mod Requested

@@ -1,6 +1,5 @@
 -- What holds of a player holds after each step of its own, and as others play.
-use Rattle.std.proofs.Common.{◌≡◌, ◌⊎◌, inl, inr, ℕ, ◌<◌, ◌≤◌, Bool, Some, List, [], ◌∷◌, length, All, nat_lt, refl, sym, ap, subst, ◌∙◌, arith, length-append}
-use Rattle.std.specs.List.{slice_get}
+use Rattle.std.proofs.Common.{◌≡◌, ◌⊎◌, inl, inr, ℕ, ◌<◌, Bool, Some, List, [], ◌∷◌, length, All, nat_lt, refl, sym, ap, subst, ◌∙◌, arith, length-append}
 use Rattle.std.proofs.lemmas.Bool.{ltb-true}
 use Rattle.std.proofs.lemmas.List.Elements.{All-nil, All-push}
 use Rattle.zk_base.specs.declared.ids.Who.{Who}
@@ -21,7 +20,7 @@ use Rattle.zk_worker.specs.Places.{PlayerPlace}
 use Rattle.zk_worker.specs.Playing.{StepOutcome}
 use Rattle.zk_worker.specs.Protocol.{IsAhead, after, spot_of, start_at, checks_first, frames_attempts}
 use Rattle.zk_worker.specs.Right.{LooksRight}
-use Rattle.zk_worker.specs.Shown.{Shown, ShowsLog, nothing_shown, shown_after, OnlyOthersCame}
+use Rattle.zk_worker.specs.Shown.{Shown, ShowsLog, nothing_shown, OnlyOthersCame}
 use Rattle.zk_worker.proofs.Between.{log-none, log-still}
 use Rattle.zk_worker.proofs.CheckedSteps.{after-spots}
 use Rattle.zk_worker.proofs.FitsStill.{ahead-fits, after-fits, start_at-fits}

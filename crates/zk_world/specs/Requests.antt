@@ -10,7 +10,6 @@ use Rattle.zk_worker.specs.declared.steps.Spot.{Spot}
 use Rattle.zk_worker.specs.declared.steps.Spot.TheVariants as spots
 use Rattle.zk_worker.specs.Families.{entry_at, is_declared}
 use Rattle.zk_worker.specs.Machines.{signal_start}
-use Rattle.zk_worker.specs.Places.{PlayerPlace}
 use Rattle.zk_worker.specs.Ranges.{step_fits}
 use Rattle.zk_worker.specs.Shown.{Shown}
 use Rattle.zk_world.specs.Says.{SaysFit}
