@@ -1,8 +1,8 @@
 -- The callers of a new kernel.
-use Rattle.std.proofs.Common.{◌≡◌, ℕ, zero, suc, ◌+◌, ◌<◌, ◌≤◌, Bool, false, true, ◌||◌, eqb, Option, Some, None, List, [], ◌∷◌, ◌++◌, length, map, option_map, get_or, All, refl, sym, ap, subst, ◌∙◌, arith}
+use Rattle.std.proofs.Common.{◌≡◌, ℕ, zero, suc, ◌+◌, ◌<◌, ◌≤◌, Bool, false, true, ◌||◌, eqb, Option, Some, None, List, [], ◌∷◌, ◌++◌, length, map, option_map, get_or, All, reverse, append_assoc, refl, sym, ap, subst, ◌∙◌, arith}
 use Rattle.std.specs.Prelude.{slice_get}
 use Rattle.std.proofs.lemmas.Bool.{ne_eqb}
-use Rattle.std.proofs.lemmas.List.{length-map}
+use Rattle.std.proofs.lemmas.List.{length-map, map-append, reverse-append}
 use Rattle.std.proofs.lemmas.List.Elements.{All-nil, All-cons, All-get_or}
 use Rattle.std.proofs.lemmas.Option.{slice_get-map, slice_get-get_or, slice_get_within, get_or_from_slice_get, same_Some}
 use Rattle.zk_base.specs.Legal.{IsLegal}
@@ -41,7 +41,7 @@ use Rattle.zk_worker.specs.Places.{PlayerPlace}
 use Rattle.zk_worker.specs.Protocol.{start_at}
 use Rattle.zk_worker.specs.Shown.{Shown, nothing_shown}
 use Rattle.zk_services.specs.declared.plain.Plain.{Plain}
-use Rattle.zk_services.specs.Alone.{plain_shown}
+use Rattle.zk_services.specs.Alone.{plain_machines, plain_shown}
 use Rattle.zk_services.specs.Objects.{history_of, histories_of}
 use Rattle.zk_services.specs.Starts.{starts}
 use Rattle.zk_services.proofs.Starts.{length-starts, numbers-starts, starts-there}
@@ -54,7 +54,7 @@ use Rattle.zk_kernel.specs.Callers.{IsAtDesk, IsCaller, place_of, shown_by, coun
 use Rattle.zk_kernel.specs.Dealt.{IsUnused, AreUnused, AreUndealt, IsDealt, AreNew, HasNew, IsUnplayed}
 use Rattle.zk_kernel.specs.Desks.{IsServed, cells_machines, desk_shown, desk_counts, capped}
 use Rattle.zk_kernel.specs.Joined.{whos}
-use Rattle.zk_kernel.specs.Kernels.{Shared, IsMadeFor}
+use Rattle.zk_kernel.specs.Kernels.{Shared, AreWhole, IsMadeFor}
 use Rattle.zk_kernel.specs.Opened.{IsNewCaller, AreNewCallers}
 use Rattle.zk_kernel.specs.Rests.{AreAllCallers}
 use Rattle.zk_kernel.specs.Rows.{starts_in, holds_in}
@@ -66,7 +66,7 @@ unused : {S E : Type 0} (history : S → List E) (x : Option S) → history_of h
 unused history None is = tt
 unused history (Some service) is = is
 
-behind : {A : Type 0} → List A → List A
+abbrev behind : {A : Type 0} → List A → List A
 behind [] = []
 behind (x ∷ xs) = xs
 
@@ -135,7 +135,35 @@ starts-differ s n within = numbered-differ (whos (starts s n)) 0 numbered
 -- and they are few
 pub starts-few : (s : Content) (n : ℕ) → IsValid s → n ≤ length (players s.decls) → length (whos (starts s n)) ≤ 256
 starts-few s n valid within =
-    omega (arith, length-map (λ (a : PlayerPlace). a.who) (starts s n), length-starts s n within, length-players s.decls, valid.players)
+    let long : length (whos (starts s n)) ≡ length (starts s n) = length-map (λ (a : PlayerPlace). a.who) (starts s n) in
+    let all = length-starts s n within in
+    let known = length-players s.decls in
+    let most = valid.players in
+    omega arith
+
+-- those for whom a scenario's cells are made differ, are few, and are all its players
+abbrev pub ArePlayers : Content → List PlayerPlace → List Who → Type 0
+ArePlayers s at ws = (at ≡ starts s (length (players s.decls))) × (ws ≡ whos at)
+
+all-whos : (s : Content) (at : List PlayerPlace) (ws : List Who) → ArePlayers s at ws →
+    ws ≡ whos (starts s (length (players s.decls)))
+all-whos s at ws are = are.1 ∙ ap whos are.0
+
+pub whos-differ : (s : Content) (at : List PlayerPlace) (ws : List Who) → ArePlayers s at ws → Differ ws
+whos-differ s at ws are =
+    subst Differ (sym (all-whos s at ws are)) (starts-differ s (length (players s.decls)) (omega arith))
+
+pub whos-few : (s : Content) (at : List PlayerPlace) (ws : List Who) → IsValid s → ArePlayers s at ws → length ws ≤ 256
+whos-few s at ws valid are =
+    subst (λ (l : List Who). length l ≤ 256) (sym (all-whos s at ws are))
+    (starts-few s (length (players s.decls)) valid (omega arith))
+
+pub whos-whole : (s : Content) (at : List PlayerPlace) (ws : List Who) → ArePlayers s at ws →
+    length ws ≡ length (players s.decls)
+whos-whole s at ws are =
+    ap (λ (l : List Who). length l) (all-whos s at ws are)
+    ∙ length-map (λ (a : PlayerPlace). a.who) (starts s (length (players s.decls)))
+    ∙ length-starts s (length (players s.decls)) (omega arith)
 
 -- what is left once the last player's passes were taken out
 pub undealt-taken : (c : Cells) (ws : List Who) (w : Who) (old : Undealt) (p : Passes) (new : Undealt) →
@@ -164,6 +192,32 @@ new-taken c ws w old p new left taken = record {
   chans = (all-left-taken (IsLegal chan_machine) chan_start ws w c.chans.items old.chans.items p.chans.items new.chans.items left.chans taken.chans).1;
   observers = (all-left-taken (IsLegal obs_machine) obs_start ws w c.observers.items old.observers.items p.observers.items new.observers.items left.observers taken.observers).1;
 }
+
+-- one caller more, before those of the players behind its player
+pub one-dealt : (c : Cells) (left all : List PlayerPlace) (at : PlayerPlace) (old : Undealt) (p : Passes) (new : Undealt)
+    (callers more : List Caller) → all ≡ left ++ at ∷ [] → IsDealt old p new →
+    more ≡ callers ++ record { player = at; passes = Some p; stopped = false } ∷ [] →
+    AreUndealt c (whos all) old × All (IsUnplayed c) (reverse callers) →
+    AreUndealt c (whos left) new × All (IsUnplayed c) (reverse more)
+one-dealt c left all at old p new callers more split dealt added was =
+    let x : Caller = record { player = at; passes = Some p; stopped = false } in
+    let last : whos all ≡ whos left ++ at.who ∷ [] =
+        ap whos split ∙ map-append (λ (a : PlayerPlace). a.who) left (at ∷ []) in
+    let before = subst (λ (ws : List Who). AreUndealt c ws old) last was.0 in
+    let turned : reverse more ≡ x ∷ reverse callers = ap reverse added ∙ reverse-append callers (x ∷ []) in
+    (undealt-taken c (whos left) at.who old p new before dealt,
+      subst (All (IsUnplayed c)) (sym turned) (All-cons (IsUnplayed c) x (reverse callers)
+      (record { passes = new-taken c (whos left) at.who old p new before dealt; going = refl }) was.1))
+
+-- the players that are left, and those of the callers
+pub one-placed : (left all made : List PlayerPlace) (x : Caller) (callers more : List Caller) →
+    all ≡ left ++ place_of x ∷ [] → more ≡ callers ++ x ∷ [] → all ++ map place_of (reverse callers) ≡ made →
+    left ++ map place_of (reverse more) ≡ made
+one-placed left all made x callers more split added was =
+    let turned : reverse more ≡ x ∷ reverse callers = ap reverse added ∙ reverse-append callers (x ∷ []) in
+    ap (λ (l : List Caller). left ++ map place_of l) turned
+    ∙ sym (append_assoc left (place_of x ∷ []) (map place_of (reverse callers)))
+    ∙ ap (λ (l : List PlayerPlace). l ++ map place_of (reverse callers)) (sym split) ∙ was
 
 -- new passes serve their player
 served-new : (c : Cells) (w : Who) (p : Passes) → AreNew c w p → IsServed c p w
@@ -254,6 +308,15 @@ shown-by c s w (Some p) machines new = shown-new c s w p machines new
 counts-by : (c : Cells) (w : Who) (o : Option Passes) (step : Step) → HasNew c w o → counts_by o step ≡ 0
 counts-by c w None step new = absurd new
 counts-by c w (Some p) step new = idle-all c w p step new
+
+-- cells that were made of a scenario's first services, for all its players
+pub made-for : (s : Content) (at : List PlayerPlace) (ws : List Who) (c : Cells) (p : Plain) → IsValid s → ArePlayers s at ws →
+    cells_machines c ≡ plain_machines p → plain_machines p ≡ machines_of s → AreWhole c (length ws) → IsMadeFor c s
+made-for s at ws c p valid are opened same whole = record {
+  valid = valid;
+  machines = opened ∙ same;
+  whole = subst (AreWhole c) (whos-whole s at ws are) whole;
+}
 
 -- callers whose players start, with new passes, are all the new callers of their kernel
 pub callers-new : (k : Shared) (n : ℕ) (callers : List Caller) → cells_machines k.cells ≡ machines_of k.scenario →
