@@ -1,12 +1,14 @@
 -- The passes of callers put together.
 use Rattle.std.proofs.Common.{◌≡◌, ◌≢◌, ◌⊎◌, inl, inr, ⊎_elim, ℕ, ◌+◌, Bool, true, false, ◌||◌, Some, None, Option, List, [], ◌∷◌, ◌++◌, length, All, refl, sym, ap, subst, ◌∙◌, arith, eqb}
 use Rattle.std.proofs.lemmas.Bool.{eq-eqb}
-use Rattle.std.proofs.lemmas.List.{map_push}
-use Rattle.std.proofs.lemmas.List.Elements.{All-nil, All-cons, All-append, All-weaker}
+use Rattle.std.specs.Prelude.{IfSome, option_to_list, map, reverse}
+use Rattle.std.proofs.lemmas.List.{map_push, reverse-append, append_assoc, length-append}
+use Rattle.std.proofs.lemmas.List.Elements.{All-nil, All-cons, All-append, All-weaker, All-pop}
 use Rattle.zk_scenario.specs.Content.{Content}
 use Rattle.zk_world.specs.SoundPlayer.{IsSoundPlayer}
 use Rattle.zk_world.proofs.Players.{player-still}
-use Rattle.zk_kernel.specs.Callers.{IsPlaying}
+use Rattle.zk_kernel.specs.declared.caller.Caller.{Caller}
+use Rattle.zk_kernel.specs.Callers.{IsPlaying, place_of}
 use Rattle.zk_base.specs.declared.ids.Who.{Who}
 use Rattle.zk_base.specs.declared.ids.Entry.{Entry}
 use Rattle.zk_turn.specs.declared.pass.Pass.{Pass}
@@ -127,10 +129,28 @@ more_together c s into other now players at gathered playing stand goes goes' =
     let us : List Who = at.who ∷ [] in
     let P : PlayerPlace → Type 0 = IsKept s ws (desk_shown into) in
     let Q : PlayerPlace → Type 0 = IsKept s (ws ++ us) (desk_shown now) in
-    let as : whos (players ++ at ∷ []) ≡ ws ++ us = map_push (λ (a : PlayerPlace). a.who) players at in
+    let told : whos (players ++ at ∷ []) ≡ ws ++ us = map_push (λ (a : PlayerPlace). a.who) players at in
     let kept : All Q (players ++ at ∷ []) = All-append Q players (at ∷ []) (All-weaker P Q (still_kept s ws us (desk_shown into) (desk_shown now) goes) players gathered.kept)
         (All-cons Q at [] (newly_kept s ws us (desk_shown other) (desk_shown now) goes' at (has_self at.who) playing.sound) (All-nil Q)) in
     record {
-      stand = subst (λ (l : List Who). AreFor c l now) (sym as) stand;
-      kept = subst (λ (l : List Who). All (IsKept s l (desk_shown now)) (players ++ at ∷ [])) (sym as) kept;
+      stand = subst (λ (l : List Who). AreFor c l now) (sym told) stand;
+      kept = subst (λ (l : List Who). All (IsKept s l (desk_shown now)) (players ++ at ∷ [])) (sym told) kept;
     }
+
+-- the last caller is taken
+pub popped : (P : Caller → Type 0) (xs ys : List Caller) (r : Option Caller) (c : Caller) → xs ≡ ys ++ option_to_list r → r ≡ Some c → All P xs → All P ys × P c
+popped P xs ys r c items is all =
+    let both = All-pop P xs ys r items all in
+    (both.0, subst (λ (o : Option Caller). IfSome o P) is both.1)
+
+-- and its place goes to those taken before it
+pub placed-next : (xs ys : List Caller) (r : Option Caller) (c : Caller) (front front' : List PlayerPlace) → xs ≡ ys ++ option_to_list r → r ≡ Some c → front' ≡ front ++ place_of c ∷ [] →
+    front ++ map place_of (reverse xs) ≡ front' ++ map place_of (reverse ys)
+placed-next xs ys r c front front' items is more =
+    ap (λ (l : List Caller). front ++ map place_of (reverse l)) (items ∙ ap (λ (o : Option Caller). ys ++ option_to_list o) is)
+    ∙ ap (λ (l : List Caller). front ++ map place_of l) (reverse-append ys (c ∷ []))
+    ∙ sym (append_assoc front (place_of c ∷ []) (map place_of (reverse ys)))
+    ∙ ap (λ (l : List PlayerPlace). l ++ map place_of (reverse ys)) (sym more)
+
+pub one_fewer : (xs ys : List Caller) (r : Option Caller) (c : Caller) → xs ≡ ys ++ option_to_list r → r ≡ Some c → length xs ≡ length ys + 1
+one_fewer xs ys r c items is = ap (λ (l : List Caller). length l) items ∙ ap (λ (o : Option Caller). length (ys ++ option_to_list o)) is ∙ length-append ys (c ∷ [])

@@ -2,6 +2,7 @@
 use Rattle.std.proofs.Common.{◌≡◌, ◌⊎◌, inl, inr, ℕ, ◌<◌, Bool, true, false, cond, nat_lt, Some, None, Ok, Err, Result, Option, List, [], ◌∷◌, length, set, refl, sym, ap, subst, ◌∙◌, arith}
 use Rattle.std.specs.Prelude.{IfOk, OnErr}
 use Rattle.std.specs.List.{slice_get}
+use Rattle.std.proofs.lemmas.Bool.Decides.{nat_tests}
 use Rattle.zk_worker.proofs.Lists.{set-there}
 use Rattle.zk_base.specs.declared.errors.NoMemory.{NoMemory}
 use Rattle.zk_scenario.specs.Content.{Content}
@@ -18,9 +19,15 @@ use Rattle.zk_worker.specs.Places.{PlayerPlace}
 use Rattle.zk_worker.specs.Playing.{StepOutcome, HasStepped}
 use Rattle.zk_worker.specs.Protocol.{attempts, after, checks_first, frames_attempts, IsAhead}
 use Rattle.zk_worker.specs.Shown.{Shown, shown_after, OnlyOthersCame}
+use Rattle.zk_kernel.specs.Rests.{Left, HasGoneOn}
 use Rattle.zk_world.specs.Chosen.{IsChosen}
 use Rattle.zk_world.specs.Sound.{IsSound}
 use Rattle.zk_world.specs.World.{World, world, stepped}
+use Rattle.zk_trace.specs.declared.trace.Ending.{Ending}
+use Rattle.zk_trace.specs.declared.trace.Trace.{Trace}
+use Rattle.zk_trace.specs.Ending.{lawful_ending}
+use Rattle.zk_world.specs.Traces.{ending_at, world_trace}
+use Rattle.zk_world.proofs.Lawful.{sound-ends}
 use Rattle.zk_world.proofs.Sound.{sound-stepped}
 
 -- a player that has an attempt ahead has steps left
@@ -68,3 +75,19 @@ module _ (m : Machines) (s : Content) (at at' : PlayerPlace) (old new : Shown) (
       IsSound s (world new (set players p at'))
   result-sound counts counts' (Ok stepped) same sound there does unchanged err = outcome-sound counts counts' stepped same sound there does
   result-sound counts counts' (Err e) same sound there does unchanged err = same-sound sound there unchanged err
+
+-- the trace of a sound world ends as it says itself
+pub ends-told : (s : Content) (w : World) (ending : Ending) (result : Result Trace NoMemory) → IsSound s w → ending ≡ ending_at s w →
+    IfOk result (λ trace. trace ≡ world_trace s ending w) → IfOk result (λ trace. trace.ending ≡ lawful_ending s trace)
+ends-told s w ending (Err e) sound is told = tt
+ends-told s w ending (Ok trace) sound is told =
+    let same : trace ≡ world_trace s ending w = told in
+    ap (λ (t : Trace). t.ending) same ∙ is ∙ sound-ends s ending w sound ∙ ap (lawful_ending s) (sym same)
+
+-- what is told of a step of what is left
+pub gone-on : (old new : Left) (p : ℕ) (at at' : PlayerPlace) (counts counts' : Counts) (result : Result Stepped NoMemory) → new.scenario ≡ old.scenario → slice_get old.world.players p ≡ Some at →
+    new.world.players ≡ set old.world.players p at' →
+    IfOk result (λ stepped. StepOutcome true (machines_of old.scenario) old.scenario at at' old.world.shown new.world.shown counts counts' stepped) → IfOk result (λ stepped. HasGoneOn old new p stepped)
+gone-on old new p at at' counts counts' (Err e) scenario there players does = tt
+gone-on old new p at at' counts counts' (Ok stepped) scenario there players does =
+    record { scenario = scenario; at = at; at' = at'; there = there; players = players; counts = counts; counts' = counts'; outcome = does }

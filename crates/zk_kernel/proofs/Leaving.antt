@@ -3,8 +3,9 @@ use Rattle.std.proofs.Common.{◌≡◌, ℕ, zero, suc, ◌<◌, ◌≤◌, ◌
 use Rattle.std.specs.List.{slice_get}
 use Rattle.std.specs.Option.{option_map, option_and_then}
 use Rattle.std.proofs.lemmas.Bool.{eqb-true}
+use Rattle.std.proofs.lemmas.List.{length-map}
 use Rattle.std.proofs.lemmas.List.Elements.{All-weaker}
-use Rattle.std.proofs.lemmas.Option.{slice_get_within}
+use Rattle.std.proofs.lemmas.Option.{same_Some, slice_get_within}
 use Rattle.zk_base.proofs.Lists.{All-at}
 use Rattle.zk_base.specs.declared.ids.Who.{Who}
 use Rattle.zk_base.specs.declared.ids.Entry.{Entry}
@@ -12,6 +13,7 @@ use Rattle.zk_scenario.specs.Content.{Content}
 use Rattle.zk_scenario.specs.Players as scenario
 use Rattle.zk_scenario.specs.Valid.{IsValid}
 use Rattle.zk_turn.specs.Players.{is_by, has, room_of_a_pass}
+use Rattle.zk_worker.proofs.Lists.{there-mapped}
 use Rattle.zk_worker.specs.declared.steps.Spot.{Spot}
 use Rattle.zk_worker.specs.declared.steps.Spot.TheVariants as spots
 use Rattle.zk_worker.specs.Families.{entry_at}
@@ -25,23 +27,31 @@ use Rattle.zk_world.specs.SoundPlayer.{IsSoundPlayer}
 use Rattle.zk_world.specs.Within.{AreWithin}
 use Rattle.zk_world.specs.World.{world}
 use Rattle.zk_world.proofs.Joining.{sound-of-players}
+use Rattle.zk_kernel.specs.declared.caller.Caller.{Caller}
+use Rattle.zk_kernel.specs.Callers.{place_of}
+use Rattle.zk_kernel.specs.Kernels.{Shared}
+use Rattle.zk_kernel.specs.Rests.{AreAllCallers}
 use Rattle.zk_kernel.specs.Closed.{AreBy, AllBy}
 use Rattle.zk_kernel.specs.Joined.{whos, IsKept}
 
 -- one of the players has this number
 has-there : (players : List PlayerPlace) (n : ℕ) → has (whos players) n ≡ true → (p : ℕ) × (at : PlayerPlace) × (slice_get players p ≡ Some at) × (at.who.number ≡ n)
 has-there [] n is = absurd (cc)
-has-there (at ∷ players) n is = by (eqb at.who.number n) refl is
+has-there (at ∷ players) n is = by (eqb at.who.number n) refl is (has-there players n)
   where
-    by : (b : Bool) → eqb at.who.number n ≡ b → (b || has (whos players) n) ≡ true → (p : ℕ) × (a : PlayerPlace) × (slice_get (at ∷ players) p ≡ Some a) × (a.who.number ≡ n)
-    by true here either = (0, at, refl, eqb-true at.who.number n here)
-    by false here either = let there = has-there players n either in (suc there.0, there.1, there.2, there.3)
+    by : (b : Bool) → eqb at.who.number n ≡ b → (b || has (whos players) n) ≡ true →
+        (has (whos players) n ≡ true → (p : ℕ) × (a : PlayerPlace) × (slice_get players p ≡ Some a) × (a.who.number ≡ n)) →
+        (p : ℕ) × (a : PlayerPlace) × (slice_get (at ∷ players) p ≡ Some a) × (a.who.number ≡ n)
+    by true here either later = (0, at, refl, eqb-true at.who.number n here)
+    by false here either later = let there = later either in (suc there.0, there.1, there.2, there.3)
 
 module _ {O R : Type 0} (ws : List Who) where
   -- whose step an entry is, where all entries are of these players
   entry-by : (o : Option (Entry O R)) (number step : ℕ) → ((e : Entry O R) → o ≡ Some e → is_by ws e ≡ true) → option_map step_of o ≡ Some (number, step) → has ws number ≡ true
   entry-by None number step each is = absurd (cc)
-  entry-by (Some e) number step each is = let same : e.who.number ≡ number = cc in subst (λ (n : ℕ). has ws n ≡ true) same (each e refl)
+  entry-by (Some e) number step each is =
+      let same : e.who.number ≡ number = ap (λ (x : ℕ × ℕ). x.0) (same_Some (step_of e) (number, step) is) in
+      subst (λ (n : ℕ). has ws n ≡ true) same (each e refl)
 
   one-by : (h : List (Entry O R)) (place number step : ℕ) → AreBy ws h → option_map step_of (slice_get h place) ≡ Some (number, step) → has ws number ≡ true
   one-by h place number step all is = entry-by (slice_get h place) number step (λ e there. All-at (λ (e : Entry O R). is_by ws e ≡ true) h place e all there) is
@@ -79,3 +89,14 @@ left-sound s shown players valid many numbers kept legal by whole unlooked short
         let there = has-there players number (by-one (whos players) shown spot number step by is) in
         let same : there.0 ≡ number = sym (numbers there.0 there.1 there.2) ∙ there.3 in
         omega (arith, same, slice_get_within players there.0 there.1 there.2)
+
+-- there are as many players as the scenario has
+pub many-players : (k : Shared) (callers : List Caller) (players : List PlayerPlace) → AreAllCallers k callers → players ≡ map place_of callers → length players ≡ length (scenario.players k.scenario.decls)
+many-players k callers players all is = ap (λ (l : List PlayerPlace). length l) is ∙ length-map callers place_of ∙ all.all
+
+-- and each stands at its number
+pub numbered : (k : Shared) (callers : List Caller) (players : List PlayerPlace) → AreAllCallers k callers → players ≡ map place_of callers →
+    (p : ℕ) (at : PlayerPlace) → slice_get players p ≡ Some at → at.who.number ≡ p
+numbered k callers players all is p at there =
+    let found = there-mapped place_of callers p at (sym (ap (λ (l : List PlayerPlace). slice_get l p) is) ∙ there) in
+    sym (ap (λ (a : PlayerPlace). a.who.number) found.2) ∙ all.numbers p found.0 found.1

@@ -1,5 +1,5 @@
 -- A kernel: the cells of a scenario's services.
-use Rattle.std.specs.Prelude.{◌≡◌, ℕ, length, Option, Some, None, All}
+use Rattle.std.specs.Prelude.{◌≡◌, ◌<◌, ℕ, length, Option, Some, None, All}
 use Rattle.zk_scenario.specs.Content.{Content}
 use Rattle.zk_scenario.specs.Players.{players}
 use Rattle.zk_scenario.specs.Valid.{IsValid}
@@ -31,8 +31,9 @@ pub record AreWhole (c : Cells) (many : ℕ) : Type 0 where
   pub chans : All (HasWhole many) c.chans.items
   pub observers : All (HasWhole many) c.observers.items
 
--- the cells have the services of this scenario, each for all its players
+-- the cells have the services of this scenario, each for all its players, of which there are some
 pub record IsMadeFor (c : Cells) (s : Content) : Type 0 where
   pub valid : IsValid s
   pub machines : cells_machines c ≡ machines_of s
   pub whole : AreWhole c (length (players s.decls))
+  pub some : 0 < length (players s.decls)

@@ -7,10 +7,10 @@ use Rattle.zk_worker.specs.Attempt.{Counts}
 use Rattle.zk_worker.specs.Machines.{machines_of}
 use Rattle.zk_worker.specs.Places.{PlayerPlace}
 use Rattle.zk_worker.specs.Playing.{StepOutcome}
-use Rattle.zk_worker.specs.Shown.{AllGrew}
+use Rattle.zk_world.specs.Sound.{IsSound}
 use Rattle.zk_world.specs.World.{World}
 use Rattle.zk_kernel.specs.declared.caller.Caller.{Caller}
-use Rattle.zk_kernel.specs.Callers.{IsCaller, place_of, shown_to}
+use Rattle.zk_kernel.specs.Callers.{IsCaller, place_of}
 use Rattle.zk_kernel.specs.Kernels.{Shared}
 
 -- what is left: the scenario, what the services show, and where each player stands
@@ -24,12 +24,12 @@ pub record AreAllCallers (k : Shared) (callers : List Caller) : Type 0 where
   pub all : length callers ≡ length (players k.scenario.decls)
   pub numbers : (p : ℕ) (c : Caller) → slice_get callers p ≡ Some c → (place_of c).who.number ≡ p
 
--- what a kernel leaves whose callers came to these ends: each history goes on from what each of them has seen of it with
--- entries of others, and each player stands where its caller left it
+-- what a kernel leaves whose callers came to these ends: each player stands where its caller left it. (What the services
+-- show then is told by `IsSound`: of each player just its log, and no other entry)
 pub record HasClosed (k : Shared) (callers : List Caller) (left : Left) : Type 0 where
   pub scenario : left.scenario ≡ k.scenario
   pub players : left.world.players ≡ map place_of callers
-  pub goes_on : (p : ℕ) (c : Caller) → slice_get callers p ≡ Some c → AllGrew p (shown_to c) left.world.shown
+  pub sound : IsSound left.scenario left.world
 
 -- a player of what is left made a step, or none for the cause that is told; all other players stand as they stood
 pub record HasGoneOn (old new : Left) (player : ℕ) (stepped : Stepped) : Type 0 where

@@ -1,7 +1,8 @@
-ghost use Rattle.std.specs.Prelude.{◌≡◌, ◌+◌, ◌<◌, ◌≤◌, ◌++◌, ◌∷◌, [], length, map, IfOk, vec_len, vec_capacity};
-ghost use Rattle.zk_kernel.specs.Callers.{IsCaller, place_of};
+ghost use Rattle.std.specs.Prelude.{◌≡◌, ◌+◌, ◌<◌, ◌≤◌, ◌++◌, ◌∷◌, [], List, map, IfOk, vec_len, vec_capacity};
+ghost use Rattle.zk_scenario.specs.Content.{Content};
+ghost use Rattle.zk_worker.specs.Places.{PlayerPlace};
+ghost use Rattle.zk_kernel.specs.Callers.{IsCaller, IsPlaying, place_of};
 ghost use Rattle.zk_kernel.specs.Joined.{AreTogether, AreGathered};
-ghost use Rattle.zk_kernel.specs.Kernels.{IsMadeFor};
 ghost use Rattle.zk_kernel.specs.Rests.{AreAllCallers, HasClosed};
 
 use crate::caller::Caller;
@@ -16,17 +17,33 @@ use zk_base::{NoMemory, push_within};
 use zk_scenario::Scenario;
 use zk_worker::Player;
 
+/// Puts the passes of one more player to those of the players before it.
+fn put_together(cells: &Cells, all: Option<Passes>, other: Passes) -> Passes
+    requires all { (s : Content) × (players : List PlayerPlace) × (at : PlayerPlace) × AreTogether cells.now s players all
+        × IsPlaying cells.now s at other }
+    ensures { (s : Content) (players : List PlayerPlace) (at : PlayerPlace) → AreTogether cells.now s players all →
+        IsPlaying cells.now s at other → AreGathered cells.now s (players ++ at ∷ []) result }
+{
+    match all {
+        Some(mut into) => {
+            join_passes(cells, &mut into, other);
+            into
+        }
+        None => other,
+    }
+}
+
 /// Puts the passes of one more caller to those of the callers before it, and takes out its player.
 fn gather_one(
     kernel: &Kernel,
-    all: &mut Option<Passes>,
+    all: Option<Passes>,
     players: &mut Vec<Player>,
     caller: Caller,
-)
+) -> Passes
     requires own { IsCaller kernel.now caller }
-    requires all { AreTogether kernel.now.cells kernel.now.scenario players.old.items all.old }
+    requires all { AreTogether kernel.now.cells kernel.now.scenario players.old.items all }
     requires room { vec_len players.old < vec_capacity players.old }
-    ensures all { AreTogether kernel.now.cells kernel.now.scenario players.new.items all.new }
+    ensures all { AreGathered kernel.now.cells kernel.now.scenario players.new.items result }
     ensures players { players.new.items ≡ players.old.items ++ place_of caller ∷ [] }
     ensures len { vec_len players.new ≡ vec_len players.old + 1 }
     ensures capacity { vec_capacity players.old ≤ vec_capacity players.new }
@@ -39,27 +56,26 @@ fn gather_one(
     let Some(passes) = passes else {
         unreachable!()
     };
-    match all {
-        Some(into) => join_passes(kernel.cells(), into, passes),
-        None => *all = Some(passes),
-    }
     push_within(players, player);
+    put_together(kernel.cells(), all, passes)
 }
 
 /// Puts the passes of callers together, and takes out their players, in the order of the callers.
 fn gather_all(
     alloc: Global,
     kernel: &Kernel,
-    callers: Vec<Caller>,
+    mut callers: Vec<Caller>,
 ) -> Result<(Passes, Vec<Player>), NoMemory>
     requires all { AreAllCallers kernel.now callers.items }
     ensures together { IfOk result (λ made. AreGathered kernel.now.cells kernel.now.scenario made.1.items made.0) }
     ensures players { IfOk result (λ made. made.1.items ≡ map place_of callers.items) }
 {
+    let _cells = kernel.cells();
     let mut players = Vec::with_capacity(alloc, callers.len())?;
     let mut all = None;
-    for caller in callers {
-        gather_one(kernel, &mut all, &mut players, caller);
+    callers.reverse();
+    while let Some(caller) = callers.pop() {
+        all = Some(gather_one(kernel, all, &mut players, caller));
     }
     let Some(all) = all else {
         unreachable!()
@@ -75,7 +91,7 @@ impl Kernel {
     pub fn close(self, alloc: Global, callers: Vec<Caller>) -> Result<Rest, NoMemory>
         requires all { AreAllCallers self callers.items }
 
-        // The services go on from what each caller has seen with entries of other callers, and of nobody else.
+        // What is left is sound: of each player just its log is shown, and there is no other entry.
         ensures closed { IfOk result (λ rest. HasClosed self callers.items rest) }
     {
         let (all, players) = gather_all(alloc, &self, callers)?;

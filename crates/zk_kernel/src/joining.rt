@@ -77,17 +77,17 @@ pub fn join_rows<S: Service>(
 
 /// Puts all passes of two callers together.
 pub fn join_passes(cells: &Cells, into: &mut Passes, other: Passes)
-    requires own { (ws : List Who) × (us : List Who) × AreFor kernel.now ws into.old × AreFor kernel.now us other }
-    ensures players { (ws us : List Who) → AreFor kernel.now ws into.old → AreFor kernel.now us other → AreFor kernel.now (ws ++ us) into.new }
-    ensures first { (ws us : List Who) → AreFor kernel.now ws into.old → AreFor kernel.now us other → AllGoOn ws (desk_shown into.old) (desk_shown into.new) }
-    ensures second { (ws us : List Who) → AreFor kernel.now ws into.old → AreFor kernel.now us other → AllGoOn us (desk_shown other) (desk_shown into.new) }
+    requires own { (ws : List Who) × (us : List Who) × AreFor cells.now ws into.old × AreFor cells.now us other }
+    ensures players { (ws us : List Who) → AreFor cells.now ws into.old → AreFor cells.now us other → AreFor cells.now (ws ++ us) into.new }
+    ensures first { (ws us : List Who) → AreFor cells.now ws into.old → AreFor cells.now us other → AllGoOn ws (desk_shown into.old) (desk_shown into.new) }
+    ensures second { (ws us : List Who) → AreFor cells.now ws into.old → AreFor cells.now us other → AllGoOn us (desk_shown other) (desk_shown into.new) }
 {
-    join_two(&kernel.work, &mut into.work, other.work);
-    join_two(&kernel.clock, &mut into.clock, other.clock);
-    join_two(&kernel.table, &mut into.table, other.table);
-    join_rows(&kernel.sems, &mut into.sems, other.sems);
-    join_rows(&kernel.msgqs, &mut into.msgqs, other.msgqs);
-    join_rows(&kernel.signals, &mut into.signals, other.signals);
-    join_rows(&kernel.chans, &mut into.chans, other.chans);
-    join_rows(&kernel.observers, &mut into.observers, other.observers);
+    join_two(&cells.work, &mut into.work, other.work);
+    join_two(&cells.clock, &mut into.clock, other.clock);
+    join_two(&cells.table, &mut into.table, other.table);
+    join_rows(&cells.sems, &mut into.sems, other.sems);
+    join_rows(&cells.msgqs, &mut into.msgqs, other.msgqs);
+    join_rows(&cells.signals, &mut into.signals, other.signals);
+    join_rows(&cells.chans, &mut into.chans, other.chans);
+    join_rows(&cells.observers, &mut into.observers, other.observers);
 }

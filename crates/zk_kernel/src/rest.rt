@@ -47,7 +47,8 @@ impl Rest {
     pub(crate) fn of(services: Plain, players: Vec<Player>, scenario: Scenario) -> Rest
         requires machines { plain_machines services ≡ machines_of scenario }
         requires sound { IsSound scenario (world (plain_shown services) players.items) }
-        ensures { result ≡ record { scenario = scenario; world = world (plain_shown services) players.items } }
+        ensures rest { result ≡ record { scenario = scenario; world = world (plain_shown services) players.items } }
+        ensures sound { IsSound result.scenario result.world }
     {
         Rest {
             services,
