@@ -311,11 +311,13 @@ counts-by c w (Some p) step new = idle-all c w p step new
 
 -- cells that were made of a scenario's first services, for all its players
 pub made-for : (s : Content) (at : List PlayerPlace) (ws : List Who) (c : Cells) (p : Plain) → IsValid s → ArePlayers s at ws →
-    cells_machines c ≡ plain_machines p → plain_machines p ≡ machines_of s → AreWhole c (length ws) → IsMadeFor c s
-made-for s at ws c p valid are opened same whole = record {
+    cells_machines c ≡ plain_machines p → plain_machines p ≡ machines_of s → AreWhole c (length ws) →
+    0 < length (players s.decls) → IsMadeFor c s
+made-for s at ws c p valid are opened same whole some = record {
   valid = valid;
   machines = opened ∙ same;
   whole = subst (AreWhole c) (whos-whole s at ws are) whole;
+  some = some;
 }
 
 -- callers whose players start, with new passes, are all the new callers of their kernel

@@ -118,7 +118,7 @@ fn whos_of(alloc: Global, players: &[Player]) -> Result<Vec<Who>, NoMemory>
 
 // Until the scenario has a copy of its own.
 fn copy_of(_alloc: Global, _scenario: &Scenario) -> Result<Scenario, NoMemory>
-    ensures { IfOk result (λ s. s ≡ _scenario.now) }
+    ensures copy { IfOk result (λ s. s ≡ _scenario.now) }
 {
     Err(NoMemory)
 }
