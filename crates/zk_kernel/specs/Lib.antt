@@ -1,8 +1,10 @@
 pub mod Callers
 pub mod Closed
+pub mod Dealt
 pub mod Desks
 pub mod Joined
 pub mod Kernels
+pub mod Opened
 pub mod Rests
 pub mod Rows
 pub mod Seats

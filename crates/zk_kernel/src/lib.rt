@@ -6,11 +6,13 @@ mod at_cells;
 mod caller;
 mod cells;
 mod close;
+mod dealing;
 mod desk;
 mod emptying;
 mod joining;
 mod kernel;
 mod looking;
+mod opening;
 mod passes;
 mod rest;
 

@@ -1,0 +1,25 @@
+use Rattle.std.proofs.Common.{rules, Some, false, ◌≡◌, ℕ, ◌+◌, ◌≤◌, List, [], ◌∷◌, ◌++◌, map, reverse, All, vec_len, vec_capacity, sym, ap, subst, ◌∙◌, arith}
+use Rattle.zk_kernel.specs.declared.caller.Caller.{Caller}
+use Rattle.zk_kernel.specs.Callers.{place_of}
+use Rattle.zk_kernel.specs.Dealt.{IsUnplayed}
+use Rattle.zk_kernel.proofs.NewCallers.{one-dealt, one-placed}
+use Rattle.zk_kernel.proofs.dealing.deal_all.Goals as goal
+
+pub loop-player-preserved : goal.loop-player-preserved
+loop-player-preserved c =
+    let l = c.loop-player in
+    let split = c.in-Some.ensures.items in
+    let added = c.push_within.ensures.items in
+    let len = c.push_within.ensures.len in
+    let kept = c.push_within.ensures.capacity in
+    let room = l.invariant.room in
+    let fewer = c.in-Some.ensures.cases in
+    record {
+      players = one-placed c.pop.new.self.items l.players.items c.args.players.items
+          (record { player = c.in-Some.player; passes = Some c.in_ok-passes.passes; stopped = false }) l.callers.items
+          c.push_within.new.items.items split added l.invariant.players;
+      new = λ cells undealt. one-dealt cells c.pop.new.self.items l.players.items c.in-Some.player l.undealt
+          c.in_ok-passes.passes c.deal_passes.new.undealt l.callers.items c.push_within.new.items.items split
+          c.in_ok-passes.ensures added (l.invariant.new cells undealt);
+      room = omega arith;
+    }

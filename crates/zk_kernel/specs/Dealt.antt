@@ -1,0 +1,131 @@
+-- New passes: those that no caller has yet, and those that a caller gets of them.
+use Rattle.std.specs.Prelude.{◌≡◌, false, Option, Some, None, List, [], ◌∷◌, ◌++◌, Vec, All}
+use Rattle.std.specs.declared.alloc.Global.{Global}
+use Rattle.std.specs.List.{AllZip}
+use Rattle.zk_base.specs.declared.ids.Who.{Who}
+use Rattle.zk_base.specs.declared.ids.Entry.{Entry}
+use Rattle.zk_base.specs.Legal.{IsLegal}
+use Rattle.zk_model_wait.specs.Clock.{clock_machine}
+use Rattle.zk_model_wait.specs.Sem.{sem_machine}
+use Rattle.zk_model_wait.specs.Msgq.{msgq_machine}
+use Rattle.zk_model_wait.specs.Signal.{signal_machine}
+use Rattle.zk_model_bus.specs.Channel.{chan_machine}
+use Rattle.zk_model_bus.specs.Observer.{obs_machine}
+use Rattle.zk_model_bus.specs.Table.{table_machine}
+use Rattle.zk_model_work.specs.Machine.{work_machine}
+use Rattle.zk_bus.specs.Seen.{chan_start, chan_history}
+use Rattle.zk_msgq.specs.Seen.{msgq_start, msgq_history}
+use Rattle.zk_objects.specs.Seen.{objects_start, objects_history}
+use Rattle.zk_poll.specs.Seen.{signal_start, signal_history}
+use Rattle.zk_sem.specs.Seen.{sem_start, sem_history}
+use Rattle.zk_subq.specs.Seen.{obs_start, obs_history}
+use Rattle.zk_time.specs.ClockSeen.{clock_start, clock_history}
+use Rattle.zk_work.specs.Seen.{work_start, work_history}
+use Rattle.zk_turn.specs.declared.pass.Pass.{Pass}
+use Rattle.zk_turn.specs.declared.cell.Cell.{Cell}
+use Rattle.zk_turn.specs.Passes.{IsNewPass, AreNewPasses}
+use Rattle.zk_services.specs.declared.plain.Plain.{Plain}
+use Rattle.zk_kernel.specs.declared.caller.Caller.{Caller}
+use Rattle.zk_kernel.specs.declared.cells.Cells.{Cells}
+use Rattle.zk_kernel.specs.declared.dealing.Undealt.{Undealt}
+use Rattle.zk_kernel.specs.declared.passes.Passes.{Passes}
+
+-- nothing was done at the service, where there is one
+abbrev pub IsUnused : {S E : Type 0} → (S → List E) → Option S → Type 0
+IsUnused history None = Unit {0}
+IsUnused history (Some service) = history service ≡ []
+
+module _ {S O R T : Type 0} where
+  -- a list has a new pass of the cell for each of these players, in order; without a cell it has none
+  abbrev pub AreLeft : (T → List (Entry O R) → Type 0) → (S → T) → List Who → Option (Cell S O R T) →
+      List (Pass S O R T) → Type 0
+  AreLeft legal start ws None passes = passes ≡ []
+  AreLeft legal start ws (Some c) passes = AreNewPasses legal start c ws passes
+
+  -- there is such a list for each cell of a kind
+  abbrev pub AllLeft : (T → List (Entry O R) → Type 0) → (S → T) → List Who → List (Option (Cell S O R T)) →
+      List (Vec (Pass S O R T) Global) → Type 0
+  AllLeft legal start ws cells lists = AllZip (λ c passes. AreLeft legal start ws c passes.items) cells lists
+
+  -- the last pass was taken out of a list, where it had one
+  abbrev pub IsTaken : Vec (Pass S O R T) Global → Option (Pass S O R T) → Vec (Pass S O R T) Global → Type 0
+  IsTaken old None new = (old.items ≡ []) × (new.items ≡ [])
+  IsTaken old (Some p) new = old.items ≡ new.items ++ p ∷ []
+
+  -- out of each list
+  abbrev pub AllTaken : List (Vec (Pass S O R T) Global) → List (Option (Pass S O R T)) →
+      List (Vec (Pass S O R T) Global) → Type 0
+  AllTaken [] [] [] = Unit {0}
+  AllTaken (old ∷ olds) (p ∷ passes) (new ∷ news) = IsTaken old p new × AllTaken olds passes news
+  AllTaken olds passes news = ⊥
+
+  -- there is a new pass of this cell for this player
+  abbrev pub IsNewAt : (T → List (Entry O R) → Type 0) → (S → T) → Who → Cell S O R T → Option (Pass S O R T) → Type 0
+  IsNewAt legal start who c None = ⊥
+  IsNewAt legal start who c (Some p) = IsNewPass legal start c who p
+
+  -- where there is a cell
+  abbrev pub IsNewIn : (T → List (Entry O R) → Type 0) → (S → T) → Who → Option (Cell S O R T) →
+      Option (Pass S O R T) → Type 0
+  IsNewIn legal start who None None = Unit {0}
+  IsNewIn legal start who None (Some p) = ⊥
+  IsNewIn legal start who (Some c) p = IsNewAt legal start who c p
+
+  -- one for each cell of a kind
+  abbrev pub AllNew : (T → List (Entry O R) → Type 0) → (S → T) → Who → List (Option (Cell S O R T)) →
+      List (Option (Pass S O R T)) → Type 0
+  AllNew legal start who cells passes = AllZip (IsNewIn legal start who) cells passes
+
+-- nothing was done at any of these services
+pub record AreUnused (p : Plain) : Type 0 where
+  pub work : work_history p.work ≡ []
+  pub clock : clock_history p.clock ≡ []
+  pub table : objects_history p.table ≡ []
+  pub sems : All (IsUnused sem_history) p.sems.items
+  pub msgqs : All (IsUnused msgq_history) p.msgqs.items
+  pub signals : All (IsUnused signal_history) p.signals.items
+  pub chans : All (IsUnused chan_history) p.chans.items
+  pub observers : All (IsUnused obs_history) p.observers.items
+
+-- these players have no pass yet, and there are new ones of each cell for them, in order
+pub record AreUndealt (c : Cells) (ws : List Who) (u : Undealt) : Type 0 where
+  pub work : AreLeft (IsLegal work_machine) work_start ws (Some c.work) u.work.items
+  pub clock : AreLeft (IsLegal clock_machine) clock_start ws (Some c.clock) u.clock.items
+  pub table : AreLeft (IsLegal table_machine) objects_start ws (Some c.table) u.table.items
+  pub sems : AllLeft (IsLegal sem_machine) sem_start ws c.sems.items u.sems.items
+  pub msgqs : AllLeft (IsLegal msgq_machine) msgq_start ws c.msgqs.items u.msgqs.items
+  pub signals : AllLeft (IsLegal signal_machine) signal_start ws c.signals.items u.signals.items
+  pub chans : AllLeft (IsLegal chan_machine) chan_start ws c.chans.items u.chans.items
+  pub observers : AllLeft (IsLegal obs_machine) obs_start ws c.observers.items u.observers.items
+
+-- the last pass of each cell was taken out
+pub record IsDealt (old : Undealt) (p : Passes) (new : Undealt) : Type 0 where
+  pub work : IsTaken old.work p.work new.work
+  pub clock : IsTaken old.clock p.clock new.clock
+  pub table : IsTaken old.table p.table new.table
+  pub sems : AllTaken old.sems.items p.sems.items new.sems.items
+  pub msgqs : AllTaken old.msgqs.items p.msgqs.items new.msgqs.items
+  pub signals : AllTaken old.signals.items p.signals.items new.signals.items
+  pub chans : AllTaken old.chans.items p.chans.items new.chans.items
+  pub observers : AllTaken old.observers.items p.observers.items new.observers.items
+
+-- the passes are new ones of this player, one of each cell
+pub record AreNew (c : Cells) (who : Who) (p : Passes) : Type 0 where
+  pub work : IsNewAt (IsLegal work_machine) work_start who c.work p.work
+  pub clock : IsNewAt (IsLegal clock_machine) clock_start who c.clock p.clock
+  pub table : IsNewAt (IsLegal table_machine) objects_start who c.table p.table
+  pub sems : AllNew (IsLegal sem_machine) sem_start who c.sems.items p.sems.items
+  pub msgqs : AllNew (IsLegal msgq_machine) msgq_start who c.msgqs.items p.msgqs.items
+  pub signals : AllNew (IsLegal signal_machine) signal_start who c.signals.items p.signals.items
+  pub chans : AllNew (IsLegal chan_machine) chan_start who c.chans.items p.chans.items
+  pub observers : AllNew (IsLegal obs_machine) obs_start who c.observers.items p.observers.items
+
+-- there are such passes
+abbrev pub HasNew : Cells → Who → Option Passes → Type 0
+HasNew c who None = ⊥
+HasNew c who (Some p) = AreNew c who p
+
+-- a caller with new passes, which nothing has stopped
+pub record IsUnplayed (c : Cells) (caller : Caller) : Type 0 where
+  pub passes : HasNew c caller.player.who caller.passes
+  pub going : caller.stopped ≡ false

@@ -1,0 +1,136 @@
+ghost use Rattle.std.specs.Prelude.{◌≡◌, ◌<◌, ◌≤◌, length, map, option_map, All, IfOk};
+ghost use Rattle.zk_base.specs.Legal.{IsLegal};
+ghost use Rattle.zk_scenario.specs.Players.{players};
+ghost use Rattle.zk_services.specs.Alone.{plain_machines};
+ghost use Rattle.zk_turn.specs.Passes.{given_to};
+ghost use Rattle.zk_turn.specs.Players.{Differ};
+ghost use Rattle.zk_kernel.specs.Dealt.{IsUnused, AreUnused, AreLeft, AllLeft, AreUndealt};
+ghost use Rattle.zk_kernel.specs.Desks.{cells_machines};
+ghost use Rattle.zk_kernel.specs.Joined.{whos};
+ghost use Rattle.zk_kernel.specs.Kernels.{HasWhole, AreWhole};
+ghost use Rattle.zk_kernel.specs.Opened.{AreNewCallers};
+ghost use Rattle.zk_kernel.specs.Rows.{starts_in};
+
+use crate::caller::Caller;
+use crate::cells::Cells;
+use crate::dealing::{Undealt, deal_all};
+use crate::kernel::Kernel;
+use std::alloc::Global;
+use zk_base::{NoMemory, Service, Who, push_within};
+use zk_scenario::Scenario;
+use zk_services::{Plain, first_players, first_services};
+use zk_turn::{Cell, Pass};
+use zk_worker::Player;
+
+/// A cell for the service of an object, where it has one, and a pass for each player, in order.
+fn open_seat<S: Service>(
+    alloc: Global,
+    service: Option<S>,
+    whos: &[Who],
+) -> Result<(Option<Cell<S>>, Vec<Pass<S>>), NoMemory>
+    requires unused { IsUnused S.history service }
+    requires few { length whos.now ≤ 256 }
+    requires differ { Differ whos.now }
+    ensures start { IfOk result (λ made. option_map (λ c. S.start (given_to c)) made.0 ≡ option_map S.start service) }
+    ensures whole { IfOk result (λ made. HasWhole (length whos.now) made.0) }
+    ensures passes { IfOk result (λ made. AreLeft (IsLegal S.machine) S.start whos.now made.0 made.1.items) }
+{
+    match service {
+        Some(service) => {
+            let (cell, passes) = Cell::new(alloc, service, whos)?;
+            Ok((Some(cell), passes))
+        }
+        None => Ok((None, Vec::new(alloc))),
+    }
+}
+
+/// A cell for each service of a kind, and a pass of each for each player, in order.
+fn open_row<S: Service>(
+    alloc: Global,
+    services: Vec<Option<S>>,
+    whos: &[Who],
+) -> Result<(Vec<Option<Cell<S>>>, Vec<Vec<Pass<S>>>), NoMemory>
+    requires unused { All (IsUnused S.history) services.items }
+    requires few { length whos.now ≤ 256 }
+    requires differ { Differ whos.now }
+    ensures starts { IfOk result (λ made. starts_in S.start made.0.items ≡ map (option_map S.start) services.items) }
+    ensures whole { IfOk result (λ made. All (HasWhole (length whos.now)) made.0.items) }
+    ensures passes { IfOk result (λ made. AllLeft (IsLegal S.machine) S.start whos.now made.0.items made.1.items) }
+{
+    let mut cells = Vec::with_capacity(alloc, services.len())?;
+    let mut lists = Vec::with_capacity(alloc, services.len())?;
+    for service in services {
+        let (cell, passes) = open_seat(alloc, service, whos)?;
+        push_within(&mut cells, cell);
+        push_within(&mut lists, passes);
+    }
+    Ok((cells, lists))
+}
+
+/// A cell for each service, and the passes of them for these players.
+fn open_cells(alloc: Global, services: Plain, whos: &[Who]) -> Result<(Cells, Undealt), NoMemory>
+    requires unused { AreUnused services }
+    requires few { length whos.now ≤ 256 }
+    requires differ { Differ whos.now }
+    ensures machines { IfOk result (λ made. cells_machines made.0 ≡ plain_machines services) }
+    ensures whole { IfOk result (λ made. AreWhole made.0 (length whos.now)) }
+    ensures passes { IfOk result (λ made. AreUndealt made.0 whos.now made.1) }
+{
+    let work = Cell::new(alloc, services.work, whos)?;
+    let clock = Cell::new(alloc, services.clock, whos)?;
+    let table = Cell::new(alloc, services.table, whos)?;
+    let sems = open_row(alloc, services.sems, whos)?;
+    let msgqs = open_row(alloc, services.msgqs, whos)?;
+    let signals = open_row(alloc, services.signals, whos)?;
+    let chans = open_row(alloc, services.chans, whos)?;
+    let observers = open_row(alloc, services.observers, whos)?;
+    let cells = Cells {
+        work: work.0,
+        items: services.items,
+        clock: clock.0,
+        table: table.0,
+        sems: sems.0,
+        msgqs: msgqs.0,
+        signals: signals.0,
+        chans: chans.0,
+        observers: observers.0,
+    };
+    let undealt = Undealt {
+        work: work.1,
+        clock: clock.1,
+        table: table.1,
+        sems: sems.1,
+        msgqs: msgqs.1,
+        signals: signals.1,
+        chans: chans.1,
+        observers: observers.1,
+    };
+    Ok((cells, undealt))
+}
+
+/// Who these players are.
+fn whos_of(alloc: Global, players: &[Player]) -> Result<Vec<Who>, NoMemory>
+    ensures { IfOk result (λ made. made.items ≡ whos players.now) }
+{
+    let made = players.iter().map(|player| player.who()).collect(alloc)?;
+    Ok(made)
+}
+
+impl Kernel {
+    /// A kernel with the services of a scenario, at which nothing was done, and one caller for each of its players, in order.
+    ///
+    /// The scenario has at least one player. The kernel keeps a copy of it.
+    pub fn new(alloc: Global, scenario: &Scenario) -> Result<(Kernel, Vec<Caller>), NoMemory>
+        requires some { 0 < length (players scenario.now.decls) }
+        ensures scenario { IfOk result (λ made. made.0.scenario ≡ scenario.now) }
+        ensures callers { IfOk result (λ made. AreNewCallers made.0 made.1.items) }
+    {
+        let own = scenario.copy(alloc)?;
+        let services = first_services(alloc, &own)?;
+        let players = first_players(alloc, &own)?;
+        let whos = whos_of(alloc, &players)?;
+        let (cells, undealt) = open_cells(alloc, services, &whos)?;
+        let callers = deal_all(alloc, players, undealt)?;
+        Ok((Kernel::of(cells, own), callers))
+    }
+}
