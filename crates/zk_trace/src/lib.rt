@@ -11,6 +11,7 @@ mod clock_read;
 mod entry_read;
 mod expiries;
 mod feed;
+mod figures;
 mod flags;
 mod halves;
 mod hints;

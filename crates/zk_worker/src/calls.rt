@@ -1,9 +1,12 @@
-ghost use Rattle.std.specs.Prelude.{◌≡◌, List, slice_get, option_map};
+ghost use Rattle.std.specs.Prelude.{◌≡◌, false, List, slice_get, option_map};
 ghost use Rattle.zk_line.specs.Calls.{word_of};
 ghost use Rattle.zk_line.specs.declared.types.Decl.{Decl};
 ghost use Rattle.zk_worker.specs.Calls.{plan_of, closing_step, plan_attempts, plan_progress};
 ghost use Rattle.zk_worker.specs.Refs.{ref_object, ref_number};
+ghost use Rattle.zk_worker.specs.Polls.{poll_progress};
+ghost use Rattle.zk_worker.specs.Publishes.{channel_progress};
 ghost use Rattle.zk_worker.specs.Replies.{answer_of};
+ghost use Rattle.zk_worker.specs.Waits.{opening_progress, wait_progress};
 
 use crate::polls::{poll_ahead, poll_progress};
 use crate::publishes::{channel_ahead, channel_progress};
@@ -11,10 +14,13 @@ use crate::refs::{queue_number, ref_number, ref_object};
 use crate::replies::answer_of;
 use crate::waits::{opening_progress, wait_ahead, wait_progress};
 use crate::{Closing, Plan, Progress, Stage, Step, StepReply, Using, Waiting, Word};
+use zk_base::Msg;
+use zk_line::Events;
 use zk_model_bus::{ChanOp, ObsOp, TableOp};
 use zk_model_wait::{ClockOp, MsgqOp, SemOp, SignalOp};
 use zk_model_work::WorkOp;
-use zk_scenario::{Call, Ref, Scenario, word_of};
+use zk_scenario::{Call, Ref, Scenario};
+use zk_words::Timeout;
 
 /// The step that ends a wait begun by the entry of this place.
 fn closing_step(closing: Closing, place: u64) -> Step
@@ -28,8 +34,6 @@ fn closing_step(closing: Closing, place: u64) -> Step
 }
 
 /// The attempt of this index of a call that makes one step.
-// What gives an attempt stands out of line, here and below: a call takes one of these ways, and each has large locals.
-#[inline(never)]
 fn one(step: &Step, stage: &Stage, index: u32) -> Option<Step>
     ensures { result ≡ slice_get (plan_attempts (Plan.One step.now) stage.now) index }
 {
@@ -40,7 +44,6 @@ fn one(step: &Step, stage: &Stage, index: u32) -> Option<Step>
 }
 
 /// The attempt of this index of a call that makes a step and perhaps the one that ends its wait.
-#[inline(never)]
 fn pair(opening: &Step, closing: Closing, stage: &Stage, index: u32) -> Option<Step>
     ensures { result ≡ slice_get (plan_attempts (Plan.Pair opening.now closing) stage.now) index }
 {
@@ -52,7 +55,6 @@ fn pair(opening: &Step, closing: Closing, stage: &Stage, index: u32) -> Option<S
 }
 
 /// The attempt of this index of a call that makes two steps.
-#[inline(never)]
 fn twice(first: &Step, second: &Step, stage: &Stage, index: u32) -> Option<Step>
     ensures { result ≡ slice_get (plan_attempts (Plan.Twice first.now second.now) stage.now) index }
 {
@@ -63,36 +65,38 @@ fn twice(first: &Step, second: &Step, stage: &Stage, index: u32) -> Option<Step>
     }
 }
 
-fn submit(scenario: &Scenario, item: Ref, queue: Option<Ref>) -> Step
-    ensures { result ≡ Step.Work (WorkOp.Submit
-        (ref_number scenario.now.decls item) (option_map (ref_number scenario.now.decls) queue)) }
+fn submit(scenario: &Scenario, item: Ref, queue: Option<Ref>) -> WorkOp
+    ensures { result ≡ WorkOp.Submit
+        (ref_number scenario.now.decls item) (option_map (ref_number scenario.now.decls) queue) }
 {
-    Step::Work(WorkOp::Submit(ref_number(scenario, item), queue_number(scenario, queue)))
+    WorkOp::Submit(ref_number(scenario, item), queue_number(scenario, queue))
 }
 
-fn schedule(scenario: &Scenario, item: Ref, queue: Ref, delay: u32) -> Step
-    ensures { result ≡ Step.Work (WorkOp.Schedule
-        (ref_number scenario.now.decls item) (ref_number scenario.now.decls queue) delay) }
+fn schedule(scenario: &Scenario, item: Ref, queue: Ref, delay: u32) -> WorkOp
+    ensures { result ≡ WorkOp.Schedule
+        (ref_number scenario.now.decls item) (ref_number scenario.now.decls queue) delay }
 {
-    Step::Work(WorkOp::Schedule(
+    WorkOp::Schedule(
         ref_number(scenario, item),
         ref_number(scenario, queue),
         delay,
-    ))
+    )
 }
 
-fn reschedule(scenario: &Scenario, item: Ref, queue: Ref, delay: u32) -> Step
-    ensures { result ≡ Step.Work (WorkOp.Reschedule
-        (ref_number scenario.now.decls item) (ref_number scenario.now.decls queue) delay) }
+fn reschedule(scenario: &Scenario, item: Ref, queue: Ref, delay: u32) -> WorkOp
+    ensures { result ≡ WorkOp.Reschedule
+        (ref_number scenario.now.decls item) (ref_number scenario.now.decls queue) delay }
 {
-    Step::Work(WorkOp::Reschedule(
+    WorkOp::Reschedule(
         ref_number(scenario, item),
         ref_number(scenario, queue),
         delay,
-    ))
+    )
 }
 
 /// A call of the work service that makes one step, about an item or a queue by its number there.
+// What gives an attempt stands out of line, here and below: a call takes one of these ways, and each has large locals.
+#[inline(never)]
 fn at_work(op: WorkOp, stage: &Stage, index: u32) -> Option<Step>
     ensures { result ≡ slice_get (plan_attempts (Plan.One (Step.Work op)) stage.now) index }
 {
@@ -100,6 +104,7 @@ fn at_work(op: WorkOp, stage: &Stage, index: u32) -> Option<Step>
 }
 
 /// A call of the work service that may wait.
+#[inline(never)]
 fn work_wait(opening: WorkOp, closing: Closing, stage: &Stage, index: u32) -> Option<Step>
     ensures { result ≡ slice_get (plan_attempts (Plan.Pair (Step.Work opening) closing) stage.now) index }
 {
@@ -107,6 +112,7 @@ fn work_wait(opening: WorkOp, closing: Closing, stage: &Stage, index: u32) -> Op
 }
 
 /// Both services that have a time go on by so many ticks.
+#[inline(never)]
 fn tick(ticks: u32, stage: &Stage, index: u32) -> Option<Step>
     ensures { result ≡ slice_get (plan_attempts (Plan.Twice
         (Step.Work (WorkOp.Announce ticks)) (Step.Clock (ClockOp.Announce ticks))) stage.now) index }
@@ -117,6 +123,7 @@ fn tick(ticks: u32, stage: &Stage, index: u32) -> Option<Step>
 }
 
 /// A call that makes one step at a semaphore.
+#[inline(never)]
 fn at_sem(sem: Ref, op: SemOp, stage: &Stage, index: u32) -> Option<Step>
     ensures { result ≡ slice_get (plan_attempts (Plan.One (Step.Sem (ref_object sem) op)) stage.now) index }
 {
@@ -124,6 +131,7 @@ fn at_sem(sem: Ref, op: SemOp, stage: &Stage, index: u32) -> Option<Step>
 }
 
 /// A call that makes one step at a message queue.
+#[inline(never)]
 fn at_msgq(queue: Ref, op: MsgqOp, stage: &Stage, index: u32) -> Option<Step>
     ensures { result ≡ slice_get (plan_attempts (Plan.One (Step.Msgq (ref_object queue) op)) stage.now) index }
 {
@@ -131,6 +139,7 @@ fn at_msgq(queue: Ref, op: MsgqOp, stage: &Stage, index: u32) -> Option<Step>
 }
 
 /// A call that writes to a signal.
+#[inline(never)]
 fn at_signal(signal: Ref, op: SignalOp, stage: &Stage, index: u32) -> Option<Step>
     ensures { result ≡ slice_get (plan_attempts (Plan.One (Step.Signal (ref_object signal) op)) stage.now) index }
 {
@@ -138,6 +147,7 @@ fn at_signal(signal: Ref, op: SignalOp, stage: &Stage, index: u32) -> Option<Ste
 }
 
 /// A call that makes one step at a channel.
+#[inline(never)]
 fn at_chan(chan: Ref, op: ChanOp, stage: &Stage, index: u32) -> Option<Step>
     ensures { result ≡ slice_get (plan_attempts (Plan.One (Step.Chan (ref_object chan) op)) stage.now) index }
 {
@@ -145,6 +155,7 @@ fn at_chan(chan: Ref, op: ChanOp, stage: &Stage, index: u32) -> Option<Step>
 }
 
 /// A call that makes one step at an observer.
+#[inline(never)]
 fn at_observer(observer: Ref, op: ObsOp, stage: &Stage, index: u32) -> Option<Step>
     ensures { result ≡ slice_get (plan_attempts (Plan.One (Step.Obs (ref_object observer) op)) stage.now) index }
 {
@@ -152,6 +163,7 @@ fn at_observer(observer: Ref, op: ObsOp, stage: &Stage, index: u32) -> Option<St
 }
 
 /// A call that makes one step at the object table.
+#[inline(never)]
 fn at_table(op: TableOp, stage: &Stage, index: u32) -> Option<Step>
     ensures { result ≡ slice_get (plan_attempts (Plan.One (Step.Table op)) stage.now) index }
 {
@@ -170,13 +182,119 @@ fn revoke(thread: Ref, object: Ref) -> TableOp
     TableOp::Revoke(ref_object(thread), ref_object(object))
 }
 
+/// A look at the busy flags of an item.
+#[inline(never)]
+fn look_item(item: Ref, stage: &Stage, index: u32) -> Option<Step>
+    ensures { result ≡ slice_get (plan_attempts (Plan.One (Step.LookItem (ref_object item))) stage.now) index }
+{
+    one(&Step::LookItem(ref_object(item)), stage, index)
+}
+
+/// A look at a signal, raised or not.
+#[inline(never)]
+fn look_signal(signal: Ref, stage: &Stage, index: u32) -> Option<Step>
+    ensures { result ≡ slice_get
+        (plan_attempts (Plan.One (Step.LookSignal (ref_object signal) false)) stage.now) index }
+{
+    one(&Step::LookSignal(ref_object(signal), false), stage, index)
+}
+
+/// A call that takes a semaphore.
+#[inline(never)]
+fn take(sem: Ref, timeout: Timeout, stage: &Stage, index: u32) -> Option<Step>
+    ensures { result ≡ slice_get
+        (plan_attempts (Plan.Wait (Waiting.Take (ref_object sem)) timeout) stage.now) index }
+{
+    wait_ahead(&Waiting::Take(ref_object(sem)), timeout, stage, index)
+}
+
+/// A call that gets a message.
+#[inline(never)]
+fn get(queue: Ref, timeout: Timeout, stage: &Stage, index: u32) -> Option<Step>
+    ensures { result ≡ slice_get
+        (plan_attempts (Plan.Wait (Waiting.Get (ref_object queue)) timeout) stage.now) index }
+{
+    wait_ahead(&Waiting::Get(ref_object(queue)), timeout, stage, index)
+}
+
+/// A call that claims a channel.
+#[inline(never)]
+fn claim(chan: Ref, timeout: Timeout, stage: &Stage, index: u32) -> Option<Step>
+    ensures { result ≡ slice_get
+        (plan_attempts (Plan.Wait (Waiting.Claim (ref_object chan)) timeout) stage.now) index }
+{
+    wait_ahead(&Waiting::Claim(ref_object(chan)), timeout, stage, index)
+}
+
+/// A call that waits for a subscriber's next channel.
+#[inline(never)]
+fn wait_at_sub(sub: Ref, timeout: Timeout, stage: &Stage, index: u32) -> Option<Step>
+    ensures { result ≡ slice_get
+        (plan_attempts (Plan.Wait (Waiting.SubWait (ref_object sub)) timeout) stage.now) index }
+{
+    wait_ahead(&Waiting::SubWait(ref_object(sub)), timeout, stage, index)
+}
+
+/// A call that puts a message.
+#[inline(never)]
+fn put_message(
+    queue: Ref,
+    message: &Msg,
+    timeout: Timeout,
+    stage: &Stage,
+    index: u32,
+) -> Option<Step>
+    ensures { result ≡ slice_get
+        (plan_attempts (Plan.Wait (Waiting.Put (ref_object queue) message.now) timeout) stage.now) index }
+{
+    wait_ahead(
+        &Waiting::Put(ref_object(queue), *message),
+        timeout,
+        stage,
+        index,
+    )
+}
+
+/// A call that publishes a message.
+#[inline(never)]
+fn publish(chan: Ref, message: &Msg, timeout: Timeout, stage: &Stage, index: u32) -> Option<Step>
+    ensures { result ≡ slice_get
+        (plan_attempts (Plan.Channel (ref_object chan) (Using.Publish message.now) timeout) stage.now) index }
+{
+    channel_ahead(
+        ref_object(chan),
+        &Using::Publish(*message),
+        timeout,
+        stage,
+        index,
+    )
+}
+
+/// A call that notifies the observers of a channel.
+#[inline(never)]
+fn notify(chan: Ref, timeout: Timeout, stage: &Stage, index: u32) -> Option<Step>
+    ensures { result ≡ slice_get
+        (plan_attempts (Plan.Channel (ref_object chan) Using.Notify timeout) stage.now) index }
+{
+    channel_ahead(ref_object(chan), &Using::Notify, timeout, stage, index)
+}
+
+/// A call that reads the message of a channel.
+#[inline(never)]
+fn read(chan: Ref, timeout: Timeout, stage: &Stage, index: u32) -> Option<Step>
+    ensures { result ≡ slice_get
+        (plan_attempts (Plan.Channel (ref_object chan) Using.Read timeout) stage.now) index }
+{
+    channel_ahead(ref_object(chan), &Using::Read, timeout, stage, index)
+}
+
 /// The attempt of this index among the next attempts of a call.
 // No plan is made of the call, since that would be moved about, and is large.
 pub fn call_ahead(scenario: &Scenario, call: &Call, stage: &Stage, index: u32) -> Option<Step>
     ensures { result ≡ slice_get (plan_attempts (plan_of scenario.now.decls call.now) stage.now) index }
 {
     match call {
-        Call::Submit(item, queue) => one(&submit(scenario, *item, *queue), stage, index),
+        Call::Submit(item, queue) => at_work(submit(scenario, *item, *queue), stage, index),
         Call::Cancel(item) => at_work(WorkOp::Cancel(ref_number(scenario, *item)), stage, index),
         Call::CancelSync(item) => work_wait(
             WorkOp::CancelStart(ref_number(scenario, *item)),
@@ -190,13 +308,13 @@ pub fn call_ahead(scenario: &Scenario, call: &Call, stage: &Stage, index: u32) -
             stage,
             index,
         ),
-        Call::Schedule(item, queue, delay) => one(
-            &schedule(scenario, *item, *queue, *delay),
+        Call::Schedule(item, queue, delay) => at_work(
+            schedule(scenario, *item, *queue, *delay),
             stage,
             index,
         ),
-        Call::Reschedule(item, queue, delay) => one(
-            &reschedule(scenario, *item, *queue, *delay),
+        Call::Reschedule(item, queue, delay) => at_work(
+            reschedule(scenario, *item, *queue, *delay),
             stage,
             index,
         ),
@@ -205,7 +323,7 @@ pub fn call_ahead(scenario: &Scenario, call: &Call, stage: &Stage, index: u32) -
             stage,
             index,
         ),
-        Call::Busy(item) => one(&Step::LookItem(ref_object(*item)), stage, index),
+        Call::Busy(item) => look_item(*item, stage, index),
         Call::Start(queue) => at_work(WorkOp::Start(ref_number(scenario, *queue)), stage, index),
         Call::Drain(queue, plug) => work_wait(
             WorkOp::DrainStart(ref_number(scenario, *queue), *plug),
@@ -215,27 +333,12 @@ pub fn call_ahead(scenario: &Scenario, call: &Call, stage: &Stage, index: u32) -
         ),
         Call::Unplug(queue) => at_work(WorkOp::Unplug(ref_number(scenario, *queue)), stage, index),
         Call::Tick(ticks) => tick(*ticks, stage, index),
-        Call::Take(sem, timeout) => wait_ahead(
-            &Waiting::Take(ref_object(*sem)),
-            *timeout,
-            stage,
-            index,
-        ),
+        Call::Take(sem, timeout) => take(*sem, *timeout, stage, index),
         Call::Give(sem) => at_sem(*sem, SemOp::Give, stage, index),
         Call::Reset(sem) => at_sem(*sem, SemOp::Reset, stage, index),
         Call::Count(sem) => at_sem(*sem, SemOp::Count, stage, index),
-        Call::Put(queue, message, timeout) => wait_ahead(
-            &Waiting::Put(ref_object(*queue), *message),
-            *timeout,
-            stage,
-            index,
-        ),
-        Call::Get(queue, timeout) => wait_ahead(
-            &Waiting::Get(ref_object(*queue)),
-            *timeout,
-            stage,
-            index,
-        ),
+        Call::Put(queue, message, timeout) => put_message(*queue, message, *timeout, stage, index),
+        Call::Get(queue, timeout) => get(*queue, *timeout, stage, index),
         Call::Peek(queue) => at_msgq(*queue, MsgqOp::Peek, stage, index),
         Call::PeekAt(queue, place) => at_msgq(*queue, MsgqOp::PeekAt(*place), stage, index),
         Call::Purge(queue) => at_msgq(*queue, MsgqOp::Purge, stage, index),
@@ -243,14 +346,9 @@ pub fn call_ahead(scenario: &Scenario, call: &Call, stage: &Stage, index: u32) -
         Call::Free(queue) => at_msgq(*queue, MsgqOp::Free, stage, index),
         Call::Raise(signal, value) => at_signal(*signal, SignalOp::Raise(*value), stage, index),
         Call::Clear(signal) => at_signal(*signal, SignalOp::Clear, stage, index),
-        Call::Check(signal) => one(&Step::LookSignal(ref_object(*signal), false), stage, index),
+        Call::Check(signal) => look_signal(*signal, stage, index),
         Call::Poll(timeout, events) => poll_ahead(*timeout, events, stage, index),
-        Call::Claim(chan, timeout) => wait_ahead(
-            &Waiting::Claim(ref_object(*chan)),
-            *timeout,
-            stage,
-            index,
-        ),
+        Call::Claim(chan, timeout) => claim(*chan, *timeout, stage, index),
         Call::Finish(chan) => at_chan(*chan, ChanOp::Finish, stage, index),
         Call::Mask(chan, observer, on) => at_chan(
             *chan,
@@ -259,33 +357,10 @@ pub fn call_ahead(scenario: &Scenario, call: &Call, stage: &Stage, index: u32) -
             index,
         ),
         Call::Enable(observer, on) => at_observer(*observer, ObsOp::Enable(*on), stage, index),
-        Call::SubWait(sub, timeout) => wait_ahead(
-            &Waiting::SubWait(ref_object(*sub)),
-            *timeout,
-            stage,
-            index,
-        ),
-        Call::Publish(chan, message, timeout) => channel_ahead(
-            ref_object(*chan),
-            &Using::Publish(*message),
-            *timeout,
-            stage,
-            index,
-        ),
-        Call::Notify(chan, timeout) => channel_ahead(
-            ref_object(*chan),
-            &Using::Notify,
-            *timeout,
-            stage,
-            index,
-        ),
-        Call::Read(chan, timeout) => channel_ahead(
-            ref_object(*chan),
-            &Using::Read,
-            *timeout,
-            stage,
-            index,
-        ),
+        Call::SubWait(sub, timeout) => wait_at_sub(*sub, *timeout, stage, index),
+        Call::Publish(chan, message, timeout) => publish(*chan, message, *timeout, stage, index),
+        Call::Notify(chan, timeout) => notify(*chan, *timeout, stage, index),
+        Call::Read(chan, timeout) => read(*chan, *timeout, stage, index),
         Call::Grant(thread, object) => at_table(grant(*thread, *object), stage, index),
         Call::Release(object) => at_table(TableOp::Release(ref_object(*object)), stage, index),
         Call::Revoke(thread, object) => at_table(revoke(*thread, *object), stage, index),
@@ -296,66 +371,119 @@ pub fn call_ahead(scenario: &Scenario, call: &Call, stage: &Stage, index: u32) -
 }
 
 /// A call that has its answer by this reply.
+// What a reply does is put where it is kept, out of line, here and below: it is large, and would be moved once for each layer.
 #[inline(never)]
-fn answers(word: Word, reply: &StepReply) -> Progress
-    ensures { result ≡ Progress.Answers word (answer_of reply.now) }
+fn answers(word: Word, reply: &StepReply, progress: &mut Progress)
+    ensures { progress.new ≡ Progress.Answers word (answer_of reply.now) }
 {
-    Progress::Answers(word, answer_of(reply))
+    *progress = Progress::Answers(word, answer_of(reply));
+}
+
+/// A call that may wait from this reply on.
+#[inline(never)]
+fn opens(word: Word, reply: &StepReply, progress: &mut Progress)
+    ensures { progress.new ≡ opening_progress word reply.now }
+{
+    *progress = opening_progress(word, reply);
+}
+
+/// A call that has made the first of its two steps.
+#[inline(never)]
+fn is_halfway(progress: &mut Progress)
+    ensures { progress.new ≡ Progress.Goes Stage.Halfway }
+{
+    *progress = Progress::Goes(Stage::Halfway);
+}
+
+/// A call that waits at an object.
+#[inline(never)]
+fn waits_on(word: Word, stage: &Stage, reply: &StepReply, progress: &mut Progress)
+    ensures { progress.new ≡ wait_progress word stage.now reply.now }
+{
+    *progress = wait_progress(word, stage, reply);
+}
+
+/// A poll.
+#[inline(never)]
+fn polls_on(
+    timeout: Timeout,
+    events: &Events,
+    stage: &Stage,
+    made: &Step,
+    reply: &StepReply,
+    progress: &mut Progress,
+)
+    ensures { progress.new ≡ poll_progress Word.Poll timeout events.now stage.now made.now reply.now }
+{
+    *progress = poll_progress(Word::Poll, timeout, events, stage, made, reply);
+}
+
+/// A call that uses a channel.
+#[inline(never)]
+fn uses_channel(word: Word, stage: &Stage, reply: &StepReply, progress: &mut Progress)
+    ensures { progress.new ≡ channel_progress word stage.now reply.now }
+{
+    *progress = channel_progress(word, stage, reply);
 }
 
 /// What the reply to a step does to its call, by the kind of the call's plan: none is made.
-pub fn call_progress(call: &Call, stage: &Stage, made: &Step, reply: &StepReply) -> Progress
+pub fn call_progress(
+    call: &Call,
+    stage: &Stage,
+    made: &Step,
+    reply: &StepReply,
+    progress: &mut Progress,
+)
     ensures { (decls : List Decl) →
-        result ≡ plan_progress (word_of call.now) (plan_of decls call.now) stage.now made.now reply.now }
+        progress.new ≡ plan_progress (word_of call.now) (plan_of decls call.now) stage.now made.now reply.now }
 {
-    let word = word_of(call);
     match (call, stage) {
-        (Call::CancelSync(_), Stage::Start) => opening_progress(word, reply),
-        (Call::CancelSync(_), _) => answers(word, reply),
-        (Call::Flush(_), Stage::Start) => opening_progress(word, reply),
-        (Call::Flush(_), _) => answers(word, reply),
-        (Call::Drain(_, _), Stage::Start) => opening_progress(word, reply),
-        (Call::Drain(_, _), _) => answers(word, reply),
-        (Call::Tick(_), Stage::Start) => Progress::Goes(Stage::Halfway),
-        (Call::Tick(_), _) => answers(word, reply),
-        (Call::Take(_, _), _) => wait_progress(word, stage, reply),
-        (Call::Put(_, _, _), _) => wait_progress(word, stage, reply),
-        (Call::Get(_, _), _) => wait_progress(word, stage, reply),
-        (Call::Claim(_, _), _) => wait_progress(word, stage, reply),
-        (Call::SubWait(_, _), _) => wait_progress(word, stage, reply),
-        (Call::Poll(timeout, events), _) => poll_progress(
-            word, *timeout, events, stage, made, reply,
+        (Call::CancelSync(_), Stage::Start) => opens(Word::CancelSync, reply, progress),
+        (Call::CancelSync(_), _) => answers(Word::CancelSync, reply, progress),
+        (Call::Flush(_), Stage::Start) => opens(Word::Flush, reply, progress),
+        (Call::Flush(_), _) => answers(Word::Flush, reply, progress),
+        (Call::Drain(_, _), Stage::Start) => opens(Word::Drain, reply, progress),
+        (Call::Drain(_, _), _) => answers(Word::Drain, reply, progress),
+        (Call::Tick(_), Stage::Start) => is_halfway(progress),
+        (Call::Tick(_), _) => answers(Word::Tick, reply, progress),
+        (Call::Take(_, _), _) => waits_on(Word::Take, stage, reply, progress),
+        (Call::Put(_, _, _), _) => waits_on(Word::Put, stage, reply, progress),
+        (Call::Get(_, _), _) => waits_on(Word::Get, stage, reply, progress),
+        (Call::Claim(_, _), _) => waits_on(Word::Claim, stage, reply, progress),
+        (Call::SubWait(_, _), _) => waits_on(Word::SubWait, stage, reply, progress),
+        (Call::Poll(timeout, events), _) => polls_on(
+            *timeout, events, stage, made, reply, progress,
         ),
-        (Call::Publish(_, _, _), _) => channel_progress(word, stage, reply),
-        (Call::Notify(_, _), _) => channel_progress(word, stage, reply),
-        (Call::Read(_, _), _) => channel_progress(word, stage, reply),
-        (Call::Submit(_, _), _) => answers(word, reply),
-        (Call::Cancel(_), _) => answers(word, reply),
-        (Call::Schedule(_, _, _), _) => answers(word, reply),
-        (Call::Reschedule(_, _, _), _) => answers(word, reply),
-        (Call::Remaining(_), _) => answers(word, reply),
-        (Call::Busy(_), _) => answers(word, reply),
-        (Call::Start(_), _) => answers(word, reply),
-        (Call::Unplug(_), _) => answers(word, reply),
-        (Call::Give(_), _) => answers(word, reply),
-        (Call::Reset(_), _) => answers(word, reply),
-        (Call::Count(_), _) => answers(word, reply),
-        (Call::Peek(_), _) => answers(word, reply),
-        (Call::PeekAt(_, _), _) => answers(word, reply),
-        (Call::Purge(_), _) => answers(word, reply),
-        (Call::Used(_), _) => answers(word, reply),
-        (Call::Free(_), _) => answers(word, reply),
-        (Call::Raise(_, _), _) => answers(word, reply),
-        (Call::Clear(_), _) => answers(word, reply),
-        (Call::Check(_), _) => answers(word, reply),
-        (Call::Finish(_), _) => answers(word, reply),
-        (Call::Mask(_, _, _), _) => answers(word, reply),
-        (Call::Enable(_, _), _) => answers(word, reply),
-        (Call::Grant(_, _), _) => answers(word, reply),
-        (Call::Release(_), _) => answers(word, reply),
-        (Call::Revoke(_, _), _) => answers(word, reply),
-        (Call::Public(_), _) => answers(word, reply),
-        (Call::Init(_), _) => answers(word, reply),
-        (Call::User, _) => answers(word, reply),
+        (Call::Publish(_, _, _), _) => uses_channel(Word::Publish, stage, reply, progress),
+        (Call::Notify(_, _), _) => uses_channel(Word::Notify, stage, reply, progress),
+        (Call::Read(_, _), _) => uses_channel(Word::Read, stage, reply, progress),
+        (Call::Submit(_, _), _) => answers(Word::Submit, reply, progress),
+        (Call::Cancel(_), _) => answers(Word::Cancel, reply, progress),
+        (Call::Schedule(_, _, _), _) => answers(Word::Schedule, reply, progress),
+        (Call::Reschedule(_, _, _), _) => answers(Word::Reschedule, reply, progress),
+        (Call::Remaining(_), _) => answers(Word::Remaining, reply, progress),
+        (Call::Busy(_), _) => answers(Word::Busy, reply, progress),
+        (Call::Start(_), _) => answers(Word::Start, reply, progress),
+        (Call::Unplug(_), _) => answers(Word::Unplug, reply, progress),
+        (Call::Give(_), _) => answers(Word::Give, reply, progress),
+        (Call::Reset(_), _) => answers(Word::Reset, reply, progress),
+        (Call::Count(_), _) => answers(Word::Count, reply, progress),
+        (Call::Peek(_), _) => answers(Word::Peek, reply, progress),
+        (Call::PeekAt(_, _), _) => answers(Word::PeekAt, reply, progress),
+        (Call::Purge(_), _) => answers(Word::Purge, reply, progress),
+        (Call::Used(_), _) => answers(Word::Used, reply, progress),
+        (Call::Free(_), _) => answers(Word::Free, reply, progress),
+        (Call::Raise(_, _), _) => answers(Word::Raise, reply, progress),
+        (Call::Clear(_), _) => answers(Word::Clear, reply, progress),
+        (Call::Check(_), _) => answers(Word::Check, reply, progress),
+        (Call::Finish(_), _) => answers(Word::Finish, reply, progress),
+        (Call::Mask(_, _, _), _) => answers(Word::Mask, reply, progress),
+        (Call::Enable(_, _), _) => answers(Word::Enable, reply, progress),
+        (Call::Grant(_, _), _) => answers(Word::Grant, reply, progress),
+        (Call::Release(_), _) => answers(Word::Release, reply, progress),
+        (Call::Revoke(_, _), _) => answers(Word::Revoke, reply, progress),
+        (Call::Public(_), _) => answers(Word::Public, reply, progress),
+        (Call::Init(_), _) => answers(Word::Init, reply, progress),
+        (Call::User, _) => answers(Word::User, reply, progress),
     }
 }

@@ -42,6 +42,8 @@ fn call_check(call: &Call, passed: u32) -> Option<Check>
     })
 }
 
+// Out of line: supervisors make none.
+#[inline(never)]
 fn role_check(scenario: &Scenario, frame: &Frame, passed: u32) -> Option<Check>
     ensures { result ≡ role_check scenario.now passed frame.now.role frame.now.next frame.now.stage }
 {
@@ -54,6 +56,7 @@ fn role_check(scenario: &Scenario, frame: &Frame, passed: u32) -> Option<Check>
 }
 
 /// The check that a player makes next, which has passed so many in its call.
+#[inline(always)]
 pub fn next_check(scenario: &Scenario, mode: Mode, passed: u32, stack: &[Frame]) -> Option<Check>
     ensures { result ≡ next_check scenario.now mode passed (reverse stack.now) }
 {

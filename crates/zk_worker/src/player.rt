@@ -15,8 +15,8 @@ use crate::frames::MOST_FRAMES;
 use crate::protocol::spot_of;
 use crate::stack::{frames_ahead, frames_progress, move_frames, open_frame, put_answer, settle};
 use crate::{
-    Answer, Answered, Answers, Check, Frame, Log, Mode, PlayerState, Role, Spot, Spots, Stage,
-    Step, StepReply, Word,
+    Answer, Answered, Answers, Check, Frame, Log, Mode, PlayerState, Progress, Role, Spot, Spots,
+    Stage, Step, StepReply, Word,
 };
 use std::alloc::Global;
 use std::marker::Model;
@@ -201,6 +201,7 @@ impl Player {
         }
     }
 
+    #[inline(always)]
     fn next_check(&self, scenario: &Scenario) -> Option<Check>
         ensures { result ≡ next_check scenario.now self.now.mode self.now.passed self.now.frames }
     {
@@ -235,7 +236,8 @@ impl Player {
             (frames_progress scenario.now self.old.frames step.now reply.now) (spot_of step.now reply.now) }
     {
         let number = self.spots.len() as u32;
-        let progress = frames_progress(scenario, &self.stack, step, reply);
+        let mut progress = Progress::Goes(Stage::Start);
+        frames_progress(scenario, &self.stack, step, reply, &mut progress);
         put_answer(&mut self.answers, number, &progress);
         move_frames(scenario, &mut self.stack, &progress);
         self.mode = mode_after(self.mode, step);

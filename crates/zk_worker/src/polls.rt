@@ -1,7 +1,7 @@
-ghost use Rattle.std.specs.Prelude.{◌≡◌, ◌++◌, ◌+◌, ◌≤◌, length, slice_get, option_to_list};
+ghost use Rattle.std.specs.Prelude.{◌≡◌, ◌++◌, ◌+◌, ◌≤◌, Some, length, slice_get, option_to_list};
 ghost use Rattle.std.specs.List.{list_any, position};
 ghost use Rattle.zk_worker.specs.Polls.{waits, is_armed, is_ready, is_to_ask, unasked_from, asks_more, ask_step, watch_step, drop_step};
-ghost use Rattle.zk_worker.specs.Polls.{asking, dropping, watching, alarm_steps, is_ended, is_closing, registers, polling, poll_start, poll_attempts};
+ghost use Rattle.zk_worker.specs.Polls.{step_at, dropping, watching, alarm_steps, is_ended, is_closing, registers, polling, poll_start, poll_attempts};
 ghost use Rattle.zk_worker.specs.Polls.{mark_of, is_watch, watched_from, event_of, marked, alarm_after, ready_from, poll_answer, is_answered, poll_goes, polled, poll_progress};
 
 use crate::refs::ref_object;
@@ -134,12 +134,11 @@ fn drop_step(event: Event, mark: Mark) -> Option<Step>
     }
 }
 
-/// The step that asks for the first event that isn't asked yet.
-fn asking(registers: bool, events: &[Event], marks: &[Mark]) -> Option<Step>
-    requires { length events.now ≤ MOST_EVENTS }
-    ensures { result ≡ asking registers events.now marks.now }
+/// The step that asks for the event at this place.
+fn ask_at(registers: bool, events: &[Event], marks: &[Mark], place: usize) -> Option<Step>
+    ensures { result ≡
+        step_at (λ event mark. ask_step registers event) events.now marks.now (Some place) }
 {
-    let place = unasked_from(0, events, marks)?;
     let event = events.get(place).copied()?;
     let _ = marks.get(place).copied()?;
     ask_step(registers, event)
@@ -221,8 +220,9 @@ fn polling_ahead(
     requires { length events.now ≤ MOST_EVENTS }
     ensures { result ≡ slice_get (polling timeout events.now alarm marks.now) index }
 {
-    if asks_more(events, marks) {
-        return at_first(asking(registers(timeout, marks), events, marks), index);
+    if let Some(place) = unasked_from(0, events, marks) {
+        let registers = registers(timeout, marks);
+        return at_first(ask_at(registers, events, marks, place), index);
     }
     if is_closing(alarm, marks) {
         return at_first(dropping(events, marks), index);
@@ -311,8 +311,9 @@ fn event_of(events: &[Event], alarm: Alarm, marks: &[Mark], made: &Step) -> Opti
     requires { length events.now ≤ MOST_EVENTS }
     ensures { result ≡ event_of events.now alarm marks.now made.now }
 {
-    if asks_more(events, marks) {
-        return unasked_from(0, events, marks);
+    let unasked = unasked_from(0, events, marks);
+    if unasked.is_some() {
+        return unasked;
     }
     if is_closing(alarm, marks) {
         return first_armed(marks);
@@ -320,17 +321,15 @@ fn event_of(events: &[Event], alarm: Alarm, marks: &[Mark], made: &Step) -> Opti
     watched_from(0, made, events, marks)
 }
 
-/// The marks with this one at a place.
-fn marked(marks: [Mark; MOST_EVENTS], place: Option<usize>, mark: Mark) -> [Mark; MOST_EVENTS]
-    ensures { result ≡ marked marks place mark }
+/// Sets the mark at a place.
+fn mark_at(marks: &mut [Mark; MOST_EVENTS], place: Option<usize>, mark: Mark)
+    ensures { marks.new ≡ marked marks.old place mark }
 {
-    let mut marks = marks;
     if let Some(place) = place {
         if place < MOST_EVENTS {
             marks[place] = mark;
         }
     }
-    marks
 }
 
 fn alarm_after(alarm: Alarm, reply: &StepReply) -> Alarm
@@ -384,15 +383,15 @@ fn poll_goes(
     timeout: Timeout,
     events: &[Event],
     alarm: Alarm,
-    marks: [Mark; MOST_EVENTS],
+    marks: &[Mark; MOST_EVENTS],
 ) -> Progress
     requires { length events.now ≤ MOST_EVENTS }
-    ensures { result ≡ poll_goes word timeout events.now alarm marks }
+    ensures { result ≡ poll_goes word timeout events.now alarm marks.now }
 {
-    if is_answered(timeout, events, alarm, &marks) {
-        Progress::Answers(word, poll_answer(&marks))
+    if is_answered(timeout, events, alarm, marks) {
+        Progress::Answers(word, poll_answer(marks))
     } else {
-        Progress::Goes(Stage::Polls(alarm, marks))
+        Progress::Goes(Stage::Polls(alarm, *marks))
     }
 }
 
@@ -409,15 +408,14 @@ fn polled(
     requires { length events.now ≤ MOST_EVENTS }
     ensures { result ≡ polled word timeout events.now alarm marks made.now reply.now }
 {
+    let mut marks = marks;
     let place = event_of(events, alarm, &marks, made);
-    let next = marked(marks, place, mark_of(reply));
-    poll_goes(word, timeout, events, alarm_after(alarm, reply), next)
+    mark_at(&mut marks, place, mark_of(reply));
+    poll_goes(word, timeout, events, alarm_after(alarm, reply), &marks)
 }
 
 /// What the reply to a step does to a poll.
 #[tactic(auto, using(crate::proofs::PollSteps::few_events))]
-// Out of line, as above.
-#[inline(never)]
 pub fn poll_progress(
     word: Word,
     timeout: Timeout,

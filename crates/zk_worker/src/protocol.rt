@@ -65,16 +65,40 @@ fn worker_progress(scenario: &Scenario, stage: &Stage, reply: &StepReply) -> Pro
     }
 }
 
-/// What the reply to a step does to an open script or run.
-pub fn role_progress(scenario: &Scenario, frame: &Frame, made: &Step, reply: &StepReply) -> Progress
-    ensures { result ≡ role_progress scenario.now frame.now.role frame.now.next frame.now.stage made.now reply.now }
+/// The runs of a queue go on.
+// Out of line, and put where it is kept, as what calls do.
+#[inline(never)]
+fn works_on(scenario: &Scenario, stage: &Stage, reply: &StepReply, progress: &mut Progress)
+    ensures { progress.new ≡ worker_progress scenario.now.decls stage.now reply.now }
+{
+    *progress = worker_progress(scenario, stage, reply);
+}
+
+/// A script goes on where it stands.
+#[inline(never)]
+fn stays(stage: &Stage, progress: &mut Progress)
+    ensures { progress.new ≡ Progress.Goes stage.now }
+{
+    *progress = Progress::Goes(*stage);
+}
+
+/// Puts what the reply to a step does to an open script or run.
+pub fn role_progress(
+    scenario: &Scenario,
+    frame: &Frame,
+    made: &Step,
+    reply: &StepReply,
+    progress: &mut Progress,
+)
+    ensures { progress.new ≡
+        role_progress scenario.now frame.now.role frame.now.next frame.now.stage made.now reply.now }
 {
     match frame.role {
         Role::Script(owner) => match call_at(scenario, owner, frame.next) {
-            Some(call) => call_progress(call, &frame.stage, made, reply),
-            None => Progress::Goes(frame.stage),
+            Some(call) => call_progress(call, &frame.stage, made, reply, progress),
+            None => stays(&frame.stage, progress),
         },
-        Role::Worker(_) => worker_progress(scenario, &frame.stage, reply),
+        Role::Worker(_) => works_on(scenario, &frame.stage, reply, progress),
     }
 }
 

@@ -41,6 +41,7 @@ fn visit_step(chan: u32, left: &[u32]) -> Step
 }
 
 /// The attempt of this index among the next attempts of a call that uses a channel.
+// Out of line: three calls use one.
 #[inline(never)]
 pub fn channel_ahead(
     chan: u32,
@@ -125,7 +126,6 @@ fn asking_progress(word: Word, stage: &Stage, reply: &StepReply) -> Progress
 }
 
 /// What the reply to a step does to a call that uses a channel.
-#[inline(never)]
 pub fn channel_progress(word: Word, stage: &Stage, reply: &StepReply) -> Progress
     ensures { result ≡ channel_progress word stage.now reply.now }
 {

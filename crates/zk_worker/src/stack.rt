@@ -51,18 +51,19 @@ pub fn frames_ahead(scenario: &Scenario, stack: &[Frame], index: u32) -> Option<
     }
 }
 
-/// What the reply to a step does to the innermost open script or run.
+/// Puts what the reply to a step does to the innermost open script or run.
 pub fn frames_progress(
     scenario: &Scenario,
     stack: &[Frame],
     made: &Step,
     reply: &StepReply,
-) -> Progress
-    ensures { result ≡ frames_progress scenario.now (reverse stack.now) made.now reply.now }
+    progress: &mut Progress,
+)
+    ensures { progress.new ≡ frames_progress scenario.now (reverse stack.now) made.now reply.now }
 {
     match top_frame(stack) {
-        Some(frame) => role_progress(scenario, frame, made, reply),
-        None => Progress::Goes(Stage::Start),
+        Some(frame) => role_progress(scenario, frame, made, reply, progress),
+        None => *progress = Progress::Goes(Stage::Start),
     }
 }
 

@@ -65,6 +65,7 @@ fn first_step(waiting: &Waiting, timeout: Timeout) -> Step
 }
 
 /// The attempt of this index among the next attempts of such a call.
+// Out of line: several kinds of calls wait.
 #[inline(never)]
 pub fn wait_ahead(waiting: &Waiting, timeout: Timeout, stage: &Stage, index: u32) -> Option<Step>
     ensures { result ≡ slice_get (wait_attempts waiting.now timeout stage.now) index }
@@ -106,7 +107,6 @@ fn with_alarm(moment: u64, progress: Progress) -> Progress
 }
 
 /// What the reply to a step does to a call that may wait.
-#[inline(never)]
 pub fn wait_progress(word: Word, stage: &Stage, reply: &StepReply) -> Progress
     ensures { result ≡ wait_progress word stage.now reply.now }
 {

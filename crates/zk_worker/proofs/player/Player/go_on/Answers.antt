@@ -14,7 +14,7 @@ invariant_of-self c =
     let spots = ap (λ v. length v.spots) c.self.view_is in
     let fewer : length was.spots.items < MOST_STEPS = omega (arith, spots, c.requires) in
     IsRoomy-moved c.args.scenario.now (reverse was.stack.items) (reverse c.move_frames.new.stack.items) was.answers.items c.put_answer.new.answers.items
-    was.spots.items c.push_within.new.items.items c.spot_of.result c.len-number.result c.frames_progress-progress.result was.passed
+    was.spots.items c.push_within.new.items.items c.spot_of.result c.len-number.result c.frames_progress.new.progress was.passed
     (vec_capacity was.stack) (vec_capacity was.answers) (vec_capacity was.spots)
     (vec_capacity c.move_frames.new.stack) (vec_capacity c.put_answer.new.answers) (vec_capacity c.push_within.new.items)
     c.self.invariant fewer c.move_frames.ensures.frames c.put_answer.ensures.answers c.push_within.ensures.items
