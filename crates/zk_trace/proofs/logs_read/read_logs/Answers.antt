@@ -12,5 +12,5 @@ returns c =
     let steps = rw (c.deref.ensures.value, c.in_ok-lines.ensures) at c.in_ok-steps.ensures in
     IfOk-weaker c.logs_by.result (λ logs. logs ≡ logs_by c.in_ok-steps.steps.items c.args.players) (λ logs. logs ≡ logs_of lines 0 c.args.players)
     (λ logs is. is ∙ ap (λ l. logs_by l c.args.players) steps
-    ∙ ap (λ n. logs_by (map (steps_of lines) (range_with_len 0 n)) c.args.players) (c.players.ensures ∙ sym c.requires.all) ∙ logs-by lines 0 c.args.players)
+    ∙ ap (λ n. logs_by (map (steps_of lines) (range_with_len 0 n)) c.args.players) (c.players-2.ensures ∙ sym c.requires.all) ∙ logs-by lines 0 c.args.players)
     c.logs_by.ensures
