@@ -51,14 +51,14 @@ module _ {A : Type 0} (key : A → ℕ) where
   abbrev pub of_key : ℕ → List A → List A
   of_key k xs = filter (λ a. eqb k (key a)) xs
 
-  with-key : (k : ℕ) (x : A) (xs : List A) → k ≡ key x → of_key k (x ∷ xs) ≡ x ∷ of_key k xs
+  pub with-key : (k : ℕ) (x : A) (xs : List A) → k ≡ key x → of_key k (x ∷ xs) ≡ x ∷ of_key k xs
   with-key k x xs same = cond-true (eqb k (key x)) (x ∷ of_key k xs) (of_key k xs) (eq-eqb k (key x) same)
 
-  other-key : (k : ℕ) (x : A) (xs : List A) → (k ≡ key x → ⊥) → of_key k (x ∷ xs) ≡ of_key k xs
+  pub other-key : (k : ℕ) (x : A) (xs : List A) → (k ≡ key x → ⊥) → of_key k (x ∷ xs) ≡ of_key k xs
   other-key k x xs other = cond-false (eqb k (key x)) (x ∷ of_key k xs) (of_key k xs) (ne_eqb k (key x) (λ same. absurd (other same)))
 
   -- none of an ascending list has a key below that of the first
-  none-below : (k : ℕ) (y : A) (ys : List A) → Ascends key (y ∷ ys) → k < key y → of_key k (y ∷ ys) ≡ []
+  pub none-below : (k : ℕ) (y : A) (ys : List A) → Ascends key (y ∷ ys) → k < key y → of_key k (y ∷ ys) ≡ []
   none-below k y ys up low =
       other-key k y ys (λ same. omega arith)
       ∙ filter_none (λ a. eqb k (key a)) ys (λ i d within. ne_eqb k (key (get_or ys i d)) (λ same. let above = up.0 i d within in absurd (omega arith)))

@@ -15,7 +15,7 @@ use Rattle.zk_trace.specs.declared.stood.Stood.{Stood}
 use Rattle.zk_trace.specs.declared.trace.Trace.{Trace}
 use Rattle.zk_trace.specs.Stood.{is_of, stood, sorted_spots, steps_of, put_line, put_lines, entries_stood, histories_stood, item_look_stood, signal_look_stood, signals_stood}
 use Rattle.zk_trace.specs.Text.{looks_at}
-use Rattle.zk_trace.specs.WholeRead.{Players, logs_of, logs_with}
+use Rattle.zk_trace.specs.WholeRead.{Players, logs_of, logs_by}
 
 -- a line more at the end of a list that is there
 pub put-there : (player : ℕ) (line : Stood) (lists : List (List Stood)) (old new : List Stood) → player < length lists →
@@ -120,16 +120,15 @@ all-get (x ∷ lines) lists k =
       joined None = refl
       joined (Some l) = ap Some (one (eqb x.player k) l)
 
--- logs by lists that are those of their players
-logs-same : (lines : List Stood) (lists : List (List Stood)) (player : ℕ) (all : Players) → length lists ≡ length all →
-    ((k : ℕ) (l : List Stood) → slice_get lists k ≡ Some l → l ≡ filter (is_of (player + k)) lines) → logs_with lists all ≡ logs_of lines player all
-logs-same lines [] player [] same each = refl
-logs-same lines [] player (one ∷ all) same each = absurd (omega (arith, same))
-logs-same lines (l ∷ lists) player [] same each = absurd (omega (arith, same))
-logs-same lines (l ∷ lists) player (one ∷ all) same each =
-    ap (λ x. record { state = one.0; steps = sorted_spots x; answers = one.1 } ∷ logs_with lists all) (each zero l refl ∙ ap (λ n. filter (is_of n) lines) (omega arith))
-    ∙ ap (λ x. record { state = one.0; steps = steps_of lines player; answers = one.1 } ∷ x)
-    (logs-same lines lists (player + 1) all (omega (arith, same)) (λ k m there. each (suc k) m there ∙ ap (λ n. filter (is_of n) lines) (omega arith)))
+-- steps by lists that are those of their players
+steps-same : (lines : List Stood) (lists : List (List Stood)) (player : ℕ) →
+    ((k : ℕ) (l : List Stood) → slice_get lists k ≡ Some l → l ≡ filter (is_of (player + k)) lines) →
+    map sorted_spots lists ≡ map (steps_of lines) (range_with_len player (length lists))
+steps-same lines [] player each = refl
+steps-same lines (l ∷ lists) player each =
+    ap (λ x. sorted_spots x ∷ map sorted_spots lists) (each zero l refl ∙ ap (λ n. filter (is_of n) lines) (omega arith))
+    ∙ ap (λ x. steps_of lines player ∷ x)
+    (steps-same lines lists (player + 1) (λ k m there. each (suc k) m there ∙ ap (λ n. filter (is_of n) lines) (omega arith)))
 
 -- what stands in a list of empty ones is empty
 empty-get : (numbers : List ℕ) (k : ℕ) (l : List Stood) → slice_get (map (λ player. []) numbers) k ≡ Some l → l ≡ []
@@ -137,13 +136,20 @@ empty-get [] k l there = absurd (none-some l there)
 empty-get (n ∷ numbers) zero l there = sym (same_Some [] l there)
 empty-get (n ∷ numbers) (suc k) l there = empty-get numbers k l there
 
--- the logs by the lists into which all lines were put
-pub logs-put : (lines : List Stood) (count : ℕ) (all : Players) → length all ≡ count →
-    logs_with (put_lines lines (map (λ player. []) (range_with_len 0 count))) all ≡ logs_of lines 0 all
-logs-put lines count all same =
+-- the steps by the lists into which all lines were put
+pub steps-put : (lines : List Stood) (count : ℕ) →
+    map sorted_spots (put_lines lines (map (λ player. []) (range_with_len 0 count))) ≡ map (steps_of lines) (range_with_len 0 count)
+steps-put lines count =
     let empty : List (List Stood) = map (λ player. []) (range_with_len 0 count) in
     let long : length empty ≡ count = length-map-range_with_len (λ player. []) 0 count in
-    logs-same lines (put_lines lines empty) 0 all (omega (arith, all-length lines empty, long))
+    steps-same lines (put_lines lines empty) 0
     (λ k l there.
     let part = one_part (λ (x : List Stood). x ++ filter (is_of k) lines) (slice_get empty k) l (sym (all-get lines empty k) ∙ there) in
     sym part.2 ∙ ap (λ (x : List Stood). x ++ filter (is_of k) lines) (empty-get (range_with_len 0 count) k part.0 part.1) ∙ ap (λ n. filter (is_of n) lines) (omega arith))
+    ∙ ap (λ n. map (steps_of lines) (range_with_len 0 n)) (all-length lines empty ∙ long)
+
+-- the logs by the steps of all players
+pub logs-by : (lines : List Stood) (player : ℕ) (all : Players) → logs_by (map (steps_of lines) (range_with_len player (length all))) all ≡ logs_of lines player all
+logs-by lines player [] = refl
+logs-by lines player (one ∷ all) =
+    ap (λ l. record { state = one.0; steps = steps_of lines player; answers = one.1 } ∷ l) (logs-by lines (player + 1) all)

@@ -2,6 +2,7 @@ pub mod EntryRead
 pub mod Feeds
 pub mod SectionRead
 pub mod Stood
+pub mod Slots
 pub mod EntryKinds
 pub mod Form
 pub mod WholeRead

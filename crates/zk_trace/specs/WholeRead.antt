@@ -28,6 +28,7 @@ use Rattle.zk_worker.specs.declared.answers.Answered.{Answered}
 use Rattle.zk_worker.specs.declared.log.Log.{Log}
 use Rattle.zk_worker.specs.declared.log.PlayerState.{PlayerState}
 use Rattle.zk_worker.specs.declared.log.PlayerState.TheVariants as states
+use Rattle.zk_worker.specs.declared.steps.Spot.{Spot}
 use Rattle.zk_trace.specs.declared.looks.ItemLook.{ItemLook}
 use Rattle.zk_trace.specs.declared.looks.SignalLook.{SignalLook}
 use Rattle.zk_trace.specs.declared.stood.Stood.{Stood}
@@ -41,7 +42,7 @@ use Rattle.zk_trace.specs.Form.{player_numbers}
 use Rattle.zk_trace.specs.LookRead.{item_look_row, says_item_look, signal_look_row, says_signal_look}
 use Rattle.zk_trace.specs.Names.{player_name}
 use Rattle.zk_trace.specs.SectionRead.{is_head, has_player}
-use Rattle.zk_trace.specs.Stood.{stood, sorted_spots, steps_of}
+use Rattle.zk_trace.specs.Stood.{stood, steps_of}
 use Rattle.zk_trace.specs.Text.{work_name, clock_name, table_name, head_row, player_word, player_row, first_row}
 use Rattle.zk_trace.specs.Words.{ending_word, state_word}
 
@@ -162,12 +163,12 @@ logs_of lines player [] = []
 logs_of lines player (one ∷ more) =
     record { state = one.0; steps = steps_of lines player; answers = one.1 } ∷ logs_of lines (player + 1) more
 
--- the same by the lists of their lines
-abbrev pub logs_with : List (List Stood) → Players → List Log
-logs_with [] players = []
-logs_with (lines ∷ lists) [] = []
-logs_with (lines ∷ lists) (one ∷ more) =
-    record { state = one.0; steps = sorted_spots lines; answers = one.1 } ∷ logs_with lists more
+-- the same by where the steps of each stand
+abbrev pub logs_by : List (List Spot) → Players → List Log
+logs_by [] players = []
+logs_by (steps ∷ lists) [] = []
+logs_by (steps ∷ lists) (one ∷ more) =
+    record { state = one.0; steps = steps; answers = one.1 } ∷ logs_by lists more
 
 -- a trace of these sections, with these logs
 abbrev pub trace_with : Ending → Singles → Families → List Log → Trace

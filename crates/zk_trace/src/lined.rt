@@ -5,11 +5,12 @@ ghost use Rattle.zk_trace.specs.Fronts.{StaysInFront};
 ghost use Rattle.zk_trace.specs.Looks.{spot_word};
 ghost use Rattle.zk_trace.specs.Text.{entry_line, answer_line};
 
+use crate::figures::put_number;
 use crate::names::player_name;
 use crate::parts::{answer_part, put_part};
 use crate::spelled::Spelled;
 use crate::words::call_word;
-use zk_base::{Entry, NoMemory, put, put_decimal};
+use zk_base::{Entry, NoMemory, put};
 use zk_scenario::Scenario;
 use zk_worker::Answered;
 
@@ -66,14 +67,14 @@ pub fn put_spot(
 {
     put(out, player_name(scenario, player as usize))?;
     out.push(POINT)?;
-    put_decimal(out, u64::from(step))
+    put_number(out, u64::from(step))
 }
 
 impl Lined for Answered {
     ghost text = { answer_line };
 
     fn put_line(&self, out: &mut Vec<u8>, scenario: &Scenario) -> Result<(), NoMemory> {
-        put_decimal(out, u64::from(self.step))?;
+        put_number(out, u64::from(self.step))?;
         out.push(b' ')?;
         put(out, call_word(self.word))?;
         put(out, b" =")?;

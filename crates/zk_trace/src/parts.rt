@@ -8,6 +8,7 @@ ghost use Rattle.zk_trace.specs.Sized.{IsSizedPart, AreSized};
 ghost use Rattle.zk_base.specs.Limits.{most_few};
 ghost use Rattle.zk_trace.specs.Static.{static_word, static_row};
 
+use crate::figures::put_number;
 use crate::flags::put_flags;
 use crate::looks::put_seen;
 use crate::names::{checked_name, item_name, name_at, put_names, queue_name, target_name};
@@ -16,7 +17,7 @@ use crate::words::{
     errno_word, need_word, put_admission, put_oops, put_ready, truth_word, wait_word,
 };
 use std::marker::Model;
-use zk_base::{Errno, Few, Msg, NoMemory, put, put_decimal};
+use zk_base::{Errno, Few, Msg, NoMemory, put};
 use zk_model_bus::{Need, OopsWhy};
 use zk_scenario::Scenario;
 use zk_words::{Choice, choice_text, put_hex};
@@ -380,9 +381,9 @@ fn put_word(out: &mut Vec<u8>, scenario: &Scenario, part: &Part<'_>) -> Result<(
         Part::Objects(objects) => put_names(out, scenario, objects.numbers()),
         Part::Checked(object) => put(out, checked_name(scenario, *object)),
         Part::Need(need) => put(out, need_word(*need)),
-        Part::Narrow(number) => put_decimal(out, u64::from(*number)),
-        Part::Wide(number) => put_decimal(out, *number),
-        Part::Place(place) => put_decimal(out, *place),
+        Part::Narrow(number) => put_number(out, u64::from(*number)),
+        Part::Wide(number) => put_number(out, *number),
+        Part::Place(place) => put_number(out, *place),
         Part::Admission(number) => put_admission(out, *number),
         Part::Plug(plug) => put(out, choice_text(Choice::Drain, *plug)),
         Part::State(on) => put(out, choice_text(Choice::State, *on)),

@@ -3,7 +3,8 @@ ghost use Rattle.zk_trace.specs.Fronts.{StaysInFront};
 ghost use Rattle.zk_trace.specs.Words.{ending_word, errno_word, need_word, why_word, oops_word, admission_word, truth_word, wait_word, position_text, positions_text, ready_word, call_word, state_word};
 
 use crate::Ending;
-use zk_base::{Errno, NoMemory, put, put_decimal};
+use crate::figures::put_number;
+use zk_base::{Errno, NoMemory, put};
 use zk_model_bus::{Need, OopsWhy};
 use zk_words::{Head, Word, row_of};
 use zk_worker::PlayerState;
@@ -88,7 +89,7 @@ pub fn put_admission(out: &mut Vec<u8>, number: u64) -> Result<(), NoMemory>
     ensures kept { OnErr result (StaysInFront out.old.items out.new.items) }
 {
     put(out, ADMISSION)?;
-    put_decimal(out, number)
+    put_number(out, number)
 }
 
 /// An answer that is true or false.
@@ -129,7 +130,7 @@ fn put_position(out: &mut Vec<u8>, position: u8) -> Result<(), NoMemory>
     ensures kept { OnErr result (StaysInFront out.old.items out.new.items) }
 {
     put(out, b" ")?;
-    put_decimal(out, u64::from(position))
+    put_number(out, u64::from(position))
 }
 
 /// A call, as it is spelled in a scenario.

@@ -1,6 +1,6 @@
 use Rattle.std.proofs.Common.{arith}
 use Rattle.zk_trace.proofs.StoodLists.{put-there, put-past}
-use Rattle.zk_trace.proofs.logs_read.put_line.Goals as goal
+use Rattle.zk_trace.proofs.steps_read.put_line.Goals as goal
 
 pub returns-in_ok-push : goal.returns-in_ok-push
 returns-in_ok-push c =

@@ -2,7 +2,7 @@ use Rattle.std.proofs.Common.{ℕ, List, [], ◌∷◌, ◌++◌, map, arith, sy
 use Rattle.std.specs.List.{range_with_len}
 use Rattle.std.proofs.lemmas.List.FromFn.{map-range_with_len_more}
 use Rattle.zk_trace.specs.declared.stood.Stood.{Stood}
-use Rattle.zk_trace.proofs.logs_read.no_lines.Goals as goal
+use Rattle.zk_trace.proofs.steps_read.no_lines.Goals as goal
 
 pub loop-player-preserved : goal.loop-player-preserved
 loop-player-preserved c =

@@ -2,7 +2,7 @@ use Rattle.std.proofs.Common.{rules}
 use Rattle.std.proofs.lemmas.List.Sorted.{answers_always}
 use Rattle.zk_trace.specs.declared.stood.Stood.{Stood}
 use Rattle.zk_trace.proofs.Stable.{stable-by_key}
-use Rattle.zk_trace.proofs.logs_read.sort_by_step.Goals as goal
+use Rattle.zk_trace.proofs.steps_read.sort_by_step.Goals as goal
 
 pub returns : goal.returns
 returns c =
