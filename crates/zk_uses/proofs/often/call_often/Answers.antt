@@ -1,4 +1,4 @@
-use Rattle.std.proofs.Common.{◌≡◌, ◌+◌, ◌≤◌, subst, ◌∙◌, arith}
+use Rattle.std.proofs.Common.{◌+◌, subst, ◌∙◌, arith}
 use Rattle.zk_base.specs.History.{IsAbove}
 use Rattle.zk_turn.specs.Passes.{pass_mine}
 use Rattle.zk_turn.proofs.Calls.{entries_made-few}

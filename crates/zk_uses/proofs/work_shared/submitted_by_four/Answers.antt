@@ -24,7 +24,7 @@ taken : (R : RattleType) (laws : Laws R) (threads wait : Dict) (κs : Lfts 10) �
 taken R laws threads wait κs sync =
     let to_rt : NamedLft = record { mir = named 6; lft = κs.1.1.1.1.1.1.0 } in
     let to_cell : NamedLft = record { mir = named 7; lft = κs.1.1.1.1.1.1.1.0 } in
-    let held = closure_of_five (lts.name-27 R laws threads wait) (Field.shr_ref_field to_rt (param 0 R) tt).row
+    let held = closure_of_five (lts.name-29 R laws threads wait) (Field.shr_ref_field to_rt (param 0 R) tt).row
     (Field.shr_ref_field to_cell (lts.of-2 R laws threads wait) tt).row (lts.of-6 R laws threads wait)
     (lts.of-6 R laws threads wait) (Field.u32-field).row
     (ref_send to_rt (param 0 R) tt sync) (ref_send to_cell (lts.of-2 R laws threads wait) tt (the_cell R laws threads wait))
