@@ -41,9 +41,10 @@ one-player legal start c who who' (Some p) p' at at' = sym at.player ∙ at'.pla
 
 -- the passes serve their player, and nobody else
 pub same-players : (k : Cells) (p p' : Passes) (who : Who) → IsServed k p who → IsServed k p' who → SamePlayers (IsServed k p) (IsServed k p')
-same-players k p p' who old new other =
-    (λ served. subst (IsServed k p') (one-player (IsLegal work_machine) work_start k.work who other p.work p.work old.work served.work) new,
-      λ served. subst (IsServed k p) (one-player (IsLegal work_machine) work_start k.work who other p'.work p'.work new.work served.work) old)
+same-players k p p' who old new other = (
+  λ served. subst (IsServed k p') (one-player (IsLegal work_machine) work_start k.work who other p.work p.work old.work served.work) new,
+  λ served. subst (IsServed k p) (one-player (IsLegal work_machine) work_start k.work who other p'.work p'.work new.work served.work) old,
+)
 
 -- one history, or those of one kind, went on
 module _ (number : ℕ) (old : Shown) where
@@ -158,4 +159,3 @@ module _ (number : ℕ) (old : Shown) where
     looks = looks-none old.looks;
     looked = refl;
   }
-

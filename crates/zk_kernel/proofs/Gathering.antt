@@ -131,7 +131,7 @@ more_together c s into other now players at gathered playing stand goes goes' =
     let Q : PlayerPlace → Type 0 = IsKept s (ws ++ us) (desk_shown now) in
     let told : whos (players ++ at ∷ []) ≡ ws ++ us = map_push (λ (a : PlayerPlace). a.who) players at in
     let kept : All Q (players ++ at ∷ []) = All-append Q players (at ∷ []) (All-weaker P Q (still_kept s ws us (desk_shown into) (desk_shown now) goes) players gathered.kept)
-        (All-cons Q at [] (newly_kept s ws us (desk_shown other) (desk_shown now) goes' at (has_self at.who) playing.sound) (All-nil Q)) in
+    (All-cons Q at [] (newly_kept s ws us (desk_shown other) (desk_shown now) goes' at (has_self at.who) playing.sound) (All-nil Q)) in
     record {
       stand = subst (λ (l : List Who). AreFor c l now) (sym told) stand;
       kept = subst (λ (l : List Who). All (IsKept s l (desk_shown now)) (players ++ at ∷ [])) (sym told) kept;

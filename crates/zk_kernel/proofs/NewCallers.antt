@@ -130,12 +130,13 @@ starts-differ s n within = numbered-differ (whos (starts s n)) 0 numbered
     numbered : Numbered 0 (whos (starts s n))
     numbered p w is =
         let there = mapped-there (λ (a : PlayerPlace). a.who) (starts s n) p w is in
-        ap (λ (x : Who). x.number) (sym there.2) ∙ numbers-starts s n within p there.0 there.1
+        let is_p : w.number ≡ p = ap (λ (x : Who). x.number) (sym there.2) ∙ numbers-starts s n within p there.0 there.1 in
+        omega (arith, is_p)
 
 -- and they are few
 pub starts-few : (s : Content) (n : ℕ) → IsValid s → n ≤ length (players s.decls) → length (whos (starts s n)) ≤ 256
 starts-few s n valid within =
-    let long : length (whos (starts s n)) ≡ length (starts s n) = length-map (λ (a : PlayerPlace). a.who) (starts s n) in
+    let long : length (whos (starts s n)) ≡ length (starts s n) = length-map (starts s n) (λ (a : PlayerPlace). a.who) in
     let all = length-starts s n within in
     let known = length-players s.decls in
     let most = valid.players in
@@ -162,7 +163,7 @@ pub whos-whole : (s : Content) (at : List PlayerPlace) (ws : List Who) → ArePl
     length ws ≡ length (players s.decls)
 whos-whole s at ws are =
     ap (λ (l : List Who). length l) (all-whos s at ws are)
-    ∙ length-map (λ (a : PlayerPlace). a.who) (starts s (length (players s.decls)))
+    ∙ length-map (starts s (length (players s.decls))) (λ (a : PlayerPlace). a.who)
     ∙ length-starts s (length (players s.decls)) (omega arith)
 
 -- what is left once the last player's passes were taken out
@@ -202,12 +203,13 @@ pub one-dealt : (c : Cells) (left all : List PlayerPlace) (at : PlayerPlace) (ol
 one-dealt c left all at old p new callers more split dealt added was =
     let x : Caller = record { player = at; passes = Some p; stopped = false } in
     let last : whos all ≡ whos left ++ at.who ∷ [] =
-        ap whos split ∙ map-append (λ (a : PlayerPlace). a.who) left (at ∷ []) in
+    ap whos split ∙ map-append (λ (a : PlayerPlace). a.who) left (at ∷ []) in
     let before = subst (λ (ws : List Who). AreUndealt c ws old) last was.0 in
-    let turned : reverse more ≡ x ∷ reverse callers = ap reverse added ∙ reverse-append callers (x ∷ []) in
-    (undealt-taken c (whos left) at.who old p new before dealt,
+    let turned : reverse more ≡ x ∷ reverse callers = ap reverse added ∙ reverse-append callers (x ∷ []) in (
+      undealt-taken c (whos left) at.who old p new before dealt,
       subst (All (IsUnplayed c)) (sym turned) (All-cons (IsUnplayed c) x (reverse callers)
-      (record { passes = new-taken c (whos left) at.who old p new before dealt; going = refl }) was.1))
+          (record { passes = new-taken c (whos left) at.who old p new before dealt; going = refl }) was.1),
+    )
 
 -- the players that are left, and those of the callers
 pub one-placed : (left all made : List PlayerPlace) (x : Caller) (callers more : List Caller) →
@@ -246,7 +248,7 @@ none-shown : {S O R T : Type 0} (start : S → T) (cs : List (Option (Cell S O R
     ◌≡◌ {A = List (List (Entry O R))} (map (λ c. []) cs) (no_entries decls)
 none-shown {S} {O} {R} {T} start cs f decls same =
     let long = ap (λ (l : List (Option T)). length l) same in
-    none-each cs decls (omega (arith, length-map (option_map (λ (c : Cell S O R T). start (given_to c))) cs, length-map f decls))
+    none-each cs decls (omega (arith, length-map cs (option_map (λ (c : Cell S O R T). start (given_to c))), length-map decls f))
 
 -- they have seen nothing
 shown-new : (c : Cells) (s : Content) (w : Who) (p : Passes) → cells_machines c ≡ machines_of s → AreNew c w p →
@@ -329,7 +331,7 @@ callers-new k n callers machines many items unplayed = record {
     own = λ p d within. own p (get_or callers p d) (slice_get-get_or callers p d within);
     all =
         (let long = ap (λ (l : List PlayerPlace). length l) items in
-        omega (arith, length-map place_of callers, length-starts k.scenario n (omega arith)));
+        omega (arith, length-map callers place_of, length-starts k.scenario n (omega arith)));
     numbers = λ p c is. numbers-starts k.scenario n (omega arith) p (place_of c) (there p c is);
   };
   new = λ p c is. record {

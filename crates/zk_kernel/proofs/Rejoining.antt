@@ -50,9 +50,10 @@ module _ {S O R T : Type 0} (legal : T → List (Entry O R) → Type 0) (start :
   stands-next n ws us (d ∷ cs) (i0 ∷ is0) [] is os c i o half a b within c-is i-is o-is = absurd b
   stands-next zero ws us (d ∷ cs) (i0 ∷ is0) (o0 ∷ os0) is os c i o half a b within c-is i-is o-is =
       let i-now : i ≡ i0 = i-is ∙ ap (λ (l : List (Option (Pass S O R T))). get_or l 0 i) half.0 in
-      let o-now : o ≡ o0 = o-is ∙ ap (λ (l : List (Option (Pass S O R T))). get_or l 0 o) half.1 in
-      (subst (λ (k : Option (Cell S O R T)). StandsIn legal start ws k i) (sym c-is) (subst (λ (p : Option (Pass S O R T)). StandsIn legal start ws d p) (sym i-now) a.0),
-        subst (λ (k : Option (Cell S O R T)). StandsIn legal start us k o) (sym c-is) (subst (λ (p : Option (Pass S O R T)). StandsIn legal start us d p) (sym o-now) b.0))
+      let o-now : o ≡ o0 = o-is ∙ ap (λ (l : List (Option (Pass S O R T))). get_or l 0 o) half.1 in (
+        subst (λ (k : Option (Cell S O R T)). StandsIn legal start ws k i) (sym c-is) (subst (λ (p : Option (Pass S O R T)). StandsIn legal start ws d p) (sym i-now) a.0),
+        subst (λ (k : Option (Cell S O R T)). StandsIn legal start us k o) (sym c-is) (subst (λ (p : Option (Pass S O R T)). StandsIn legal start us d p) (sym o-now) b.0),
+      )
   stands-next (suc n) ws us (d ∷ cs) (i0 ∷ is0) (o0 ∷ os0) [] os c i o half a b within c-is i-is o-is = absurd half
   stands-next (suc n) ws us (d ∷ cs) (i0 ∷ is0) (o0 ∷ os0) (j ∷ is) [] c i o half a b within c-is i-is o-is = absurd half
   stands-next (suc n) ws us (d ∷ cs) (i0 ∷ is0) (o0 ∷ os0) (j ∷ is) (p ∷ os) c i o half a b within c-is i-is o-is =
@@ -74,9 +75,10 @@ module _ {S O R T : Type 0} (legal : T → List (Entry O R) → Type 0) (start :
       from zero (d ∷ cs) (i0 ∷ is0) (o0 ∷ os0) (j ∷ is) [] half il ol within c-is i-is o-is = let l = ap length half.1 in absurd (omega arith)
       from zero (d ∷ cs) (i0 ∷ is0) (o0 ∷ os0) (j ∷ is) (p ∷ os) half il ol within c-is i-is o-is =
           let i-now : i ≡ i0 = i-is ∙ ap (λ (l : List (Option (Pass S O R T))). get_or l 0 i) half.0 in
-          let o-now : o ≡ o0 = o-is ∙ ap (λ (l : List (Option (Pass S O R T))). get_or l 0 o) half.1 in
-          (subst (λ (k : Option (Cell S O R T)). IsJoined k i0 o0 i') c-is (subst (λ (q : Option (Pass S O R T)). IsJoined c q o0 i') i-now (subst (λ (q : Option (Pass S O R T)). IsJoined c i q i') o-now joined)),
-            (ap (drop_first {A = Option (Pass S O R T)}) half.0, ap (drop_first {A = Option (Pass S O R T)}) half.1))
+          let o-now : o ≡ o0 = o-is ∙ ap (λ (l : List (Option (Pass S O R T))). get_or l 0 o) half.1 in (
+            subst (λ (k : Option (Cell S O R T)). IsJoined k i0 o0 i') c-is (subst (λ (q : Option (Pass S O R T)). IsJoined c q o0 i') i-now (subst (λ (q : Option (Pass S O R T)). IsJoined c i q i') o-now joined)),
+            (ap (drop_first {A = Option (Pass S O R T)}) half.0, ap (drop_first {A = Option (Pass S O R T)}) half.1),
+          )
       from (suc n) (d ∷ cs) (i0 ∷ is0) (o0 ∷ os0) [] os half il ol within c-is i-is o-is = absurd half
       from (suc n) (d ∷ cs) (i0 ∷ is0) (o0 ∷ os0) (j ∷ is) [] half il ol within c-is i-is o-is = absurd half
       from (suc n) (d ∷ cs) (i0 ∷ is0) (o0 ∷ os0) (j ∷ is) (p ∷ os) half il ol within c-is i-is o-is =

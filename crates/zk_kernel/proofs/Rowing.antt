@@ -166,6 +166,7 @@ module _ {S O R T : Type 0} (m : Machine T O R) (start : S → T) (who : Who) (s
     subst (EachGrew who.number (seen_all ps)) (sym (seen-set ps i new)) (grew-at who ps i old (seen_at new) found visited.0),
     λ tell. ap (λ (hs : List (List (Entry O R))). answer_at (family m start cs) hs tell who i op) (seen-set ps i new)
         ∙ answer-at cs (set (seen_all ps) i (seen_at new)) i c (seen_at new) tell there (set-there (seen_all ps) i (seen_at new) (let l = seen-long ps in omega arith))
-        ∙ ap (option_map (λ reply. tell i reply (length (seen_at new)))) visited.1)
+        ∙ ap (option_map (λ reply. tell i reply (length (seen_at new)))) visited.1,
+  )
   visited-among cs ps i c old new (Err e) there found within visited =
       subst (EachGrew who.number (seen_all ps)) (sym (seen-set ps i new)) (grew-at who ps i old (seen_at new) found visited)

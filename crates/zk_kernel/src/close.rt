@@ -53,9 +53,7 @@ fn gather_one(
         passes,
         stopped: _,
     } = caller;
-    let Some(passes) = passes else {
-        unreachable!()
-    };
+    let Some(passes) = passes else { unreachable!() };
     push_within(players, player);
     put_together(kernel.cells(), all, passes)
 }
@@ -77,9 +75,7 @@ fn gather_all(
     while let Some(caller) = callers.pop() {
         all = Some(gather_one(kernel, all, &mut players, caller));
     }
-    let Some(all) = all else {
-        unreachable!()
-    };
+    let Some(all) = all else { unreachable!() };
     Ok((all, players))
 }
 

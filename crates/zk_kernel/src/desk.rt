@@ -5,11 +5,11 @@ ghost use Rattle.zk_worker.specs.Looks.{look_reply};
 ghost use Rattle.zk_worker.specs.Machines.{item_of};
 ghost use Rattle.zk_kernel.specs.Desks as desks;
 
+use crate::at_cell::visit;
+use crate::at_cells::visit_at;
 use crate::cells::Cells;
 use crate::looking::{look, see_at};
-use crate::at_cell::visit;
 use crate::passes::Passes;
-use crate::at_cells::visit_at;
 use std::sync::Wait;
 use zk_base::{NoMemory, Seen, Who};
 use zk_worker::{Services, Step, StepReply};
@@ -47,44 +47,119 @@ impl<'a, R: Wait> Services for Desk<'a, R> {
     ) -> Result<Option<StepReply>, NoMemory> {
         match step {
             Step::Work(op) => {
-                let made = visit(self.rt, &self.cells.work, &mut self.passes.work, who, number, *op)?;
+                let made = visit(
+                    self.rt,
+                    &self.cells.work,
+                    &mut self.passes.work,
+                    who,
+                    number,
+                    *op,
+                )?;
                 Ok(made.map(|made| StepReply::Work(made.0, made.1)))
             }
             Step::Clock(op) => {
-                let made = visit(self.rt, &self.cells.clock, &mut self.passes.clock, who, number, *op)?;
+                let made = visit(
+                    self.rt,
+                    &self.cells.clock,
+                    &mut self.passes.clock,
+                    who,
+                    number,
+                    *op,
+                )?;
                 Ok(made.map(|made| StepReply::Clock(made.0, made.1)))
             }
             Step::Table(op) => {
-                let made = visit(self.rt, &self.cells.table, &mut self.passes.table, who, number, *op)?;
+                let made = visit(
+                    self.rt,
+                    &self.cells.table,
+                    &mut self.passes.table,
+                    who,
+                    number,
+                    *op,
+                )?;
                 Ok(made.map(|made| StepReply::Table(made.0, made.1)))
             }
             Step::Sem(object, op) => {
-                let made = visit_at(self.rt, &self.cells.sems, &mut self.passes.sems, *object, who, number, *op)?;
+                let made = visit_at(
+                    self.rt,
+                    &self.cells.sems,
+                    &mut self.passes.sems,
+                    *object,
+                    who,
+                    number,
+                    *op,
+                )?;
                 Ok(made.map(|made| StepReply::Sem(*object, made.0, made.1)))
             }
             Step::Msgq(object, op) => {
-                let made = visit_at(self.rt, &self.cells.msgqs, &mut self.passes.msgqs, *object, who, number, *op)?;
+                let made = visit_at(
+                    self.rt,
+                    &self.cells.msgqs,
+                    &mut self.passes.msgqs,
+                    *object,
+                    who,
+                    number,
+                    *op,
+                )?;
                 Ok(made.map(|made| StepReply::Msgq(*object, made.0, made.1)))
             }
             Step::Signal(object, op) => {
-                let made = visit_at(self.rt, &self.cells.signals, &mut self.passes.signals, *object, who, number, *op)?;
+                let made = visit_at(
+                    self.rt,
+                    &self.cells.signals,
+                    &mut self.passes.signals,
+                    *object,
+                    who,
+                    number,
+                    *op,
+                )?;
                 Ok(made.map(|made| StepReply::Signal(*object, made.0, made.1)))
             }
             Step::Chan(object, op) => {
-                let made = visit_at(self.rt, &self.cells.chans, &mut self.passes.chans, *object, who, number, *op)?;
+                let made = visit_at(
+                    self.rt,
+                    &self.cells.chans,
+                    &mut self.passes.chans,
+                    *object,
+                    who,
+                    number,
+                    *op,
+                )?;
                 Ok(made.map(|made| StepReply::Chan(*object, made.0, made.1)))
             }
             Step::Obs(object, op) => {
-                let made = visit_at(self.rt, &self.cells.observers, &mut self.passes.observers, *object, who, number, *op)?;
+                let made = visit_at(
+                    self.rt,
+                    &self.cells.observers,
+                    &mut self.passes.observers,
+                    *object,
+                    who,
+                    number,
+                    *op,
+                )?;
                 Ok(made.map(|made| StepReply::Obs(*object, made.0, made.1)))
             }
             Step::LookItem(object) => {
                 let item = item_at(self.cells, *object);
-                let (word, at) = look(self.rt, &self.cells.work, &mut self.passes.work, who, number, item);
+                let (word, at) = look(
+                    self.rt,
+                    &self.cells.work,
+                    &mut self.passes.work,
+                    who,
+                    number,
+                    item,
+                );
                 Ok(Some(StepReply::Flags(word as u8, at)))
             }
             Step::LookSignal(object, must) => {
-                let seen = see_at(self.rt, &self.cells.signals, &mut self.passes.signals, *object, who, number);
+                let seen = see_at(
+                    self.rt,
+                    &self.cells.signals,
+                    &mut self.passes.signals,
+                    *object,
+                    who,
+                    number,
+                );
                 Ok(told(*must, seen))
             }
         }

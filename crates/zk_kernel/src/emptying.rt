@@ -29,9 +29,7 @@ fn empty_one<S: Service>(cell: Cell<S>, pass: Option<Pass<S>>) -> S
     ensures mine { (ws : List Who) → StandsFor (IsLegal S.machine) S.start ws cell pass →
         All (λ e. is_by ws e ≡ true) (S.history result) }
 {
-    let Some(pass) = pass else {
-        unreachable!()
-    };
+    let Some(pass) = pass else { unreachable!() };
     cell.close(pass)
 }
 

@@ -13,11 +13,7 @@ use zk_base::Service;
 use zk_turn::{Cell, Pass};
 
 /// Puts two passes of one cell together.
-pub fn join_two<S: Service>(
-    cell: &Cell<S>,
-    into: &mut Option<Pass<S>>,
-    other: Option<Pass<S>>,
-)
+pub fn join_two<S: Service>(cell: &Cell<S>, into: &mut Option<Pass<S>>, other: Option<Pass<S>>)
     requires own { (ws : List Who) × (us : List Who) × StandsFor (IsLegal S.machine) S.start ws cell.now into.old
         × StandsFor (IsLegal S.machine) S.start us cell.now other }
     ensures players { (ws us : List Who) → StandsFor (IsLegal S.machine) S.start ws cell.now into.old →
@@ -28,19 +24,13 @@ pub fn join_two<S: Service>(
     let Some(mut pass) = into.take() else {
         unreachable!()
     };
-    let Some(other) = other else {
-        unreachable!()
-    };
+    let Some(other) = other else { unreachable!() };
     cell.join(&mut pass, other);
     *into = Some(pass);
 }
 
 /// Puts two passes of one object together, where it has a cell.
-fn join_one<S: Service>(
-    cell: &Option<Cell<S>>,
-    into: &mut Option<Pass<S>>,
-    other: Option<Pass<S>>,
-)
+fn join_one<S: Service>(cell: &Option<Cell<S>>, into: &mut Option<Pass<S>>, other: Option<Pass<S>>)
     requires own { (ws : List Who) × (us : List Who) × StandsIn (IsLegal S.machine) S.start ws cell.now into.old
         × StandsIn (IsLegal S.machine) S.start us cell.now other }
     ensures players { (ws us : List Who) → StandsIn (IsLegal S.machine) S.start ws cell.now into.old →

@@ -110,9 +110,12 @@ fn open_cells(alloc: Global, services: Plain, whos: &[Who]) -> Result<(Cells, Un
 
 /// Who these players are.
 fn whos_of(alloc: Global, players: &[Player]) -> Result<Vec<Who>, NoMemory>
-    ensures { IfOk result (λ made. made.items ≡ whos players.now) }
+    ensures { IfOk result (λ made. made.items ≡ map (λ at. at.who) players.now) }
 {
-    let made = players.iter().map(|player| player.who()).collect(alloc)?;
+    let mut made = Vec::new(alloc);
+    for player in players {
+        made.push(player.who())?;
+    }
     Ok(made)
 }
 

@@ -41,7 +41,7 @@ returns-in-Ok-Some-clause-visited g c =
     let goes = subst (λ (ws : List Who). GoesOn ws seen h) own.only c.enter-held.ensures.seen in
     let new = c.leave.result.seat.me.0.seen in
     let made = entered m start (g.S.Service.start (service_of c.enter-held.result)) c.args.who (held_who c.enter-held.result) c.args.step c.args.op c.in-Ok-Some.reply c.at-place.result seen h new (g.S.Service.history (service_of c.act-answer.new.self))
-        c.enter-held.ensures.own.same_start who (rw c.in-Ok-Some.field-0-is at (rw c.in-Ok-Some.is at c.act-answer.ensures.reply)) c.at-place.ensures (others_grew c.args.who seen h goes) c.leave.ensures.seen (rw c.in-Ok-Some.field-0-is at (rw c.in-Ok-Some.is at c.act-answer.ensures.entry)) in
+    c.enter-held.ensures.own.same_start who (rw c.in-Ok-Some.field-0-is at (rw c.in-Ok-Some.is at c.act-answer.ensures.reply)) c.at-place.ensures (others_grew c.args.who seen h goes) c.leave.ensures.seen (rw c.in-Ok-Some.field-0-is at (rw c.in-Ok-Some.is at c.act-answer.ensures.entry)) in
     subst (λ o. IsEntered m start c.args.who c.args.step c.args.op c.in-Ok-Some.reply c.at-place.result (seen_at o) new) (sym is) made
 
 pub returns-in-Ok-None-clause-visited : goal.returns-in-Ok-None-clause-visited
@@ -58,7 +58,7 @@ returns-in-Ok-None-clause-visited g c =
     let same = rw c.in-Ok-None.field-0-is at (rw c.in-Ok-None.is at c.act-answer.ensures.entry) in
     let grew = subst (λ (l : List (Entry g.row.S-Op.Denot g.row.S-Reply.Denot)). OthersGrew c.args.who.number seen l) (sym (c.leave.ensures.seen ∙ same)) (others_grew c.args.who seen h goes) in
     let not = refused m start (g.S.Service.start (service_of c.enter-held.result)) c.args.who (held_who c.enter-held.result) c.args.op h new (g.S.Service.history (service_of c.act-answer.new.self))
-        c.enter-held.ensures.own.same_start who (rw c.in-Ok-None.field-0-is at (rw c.in-Ok-None.is at c.act-answer.ensures.reply)) c.leave.ensures.seen same in
+    c.enter-held.ensures.own.same_start who (rw c.in-Ok-None.field-0-is at (rw c.in-Ok-None.is at c.act-answer.ensures.reply)) c.leave.ensures.seen same in
     subst (λ o. OthersGrew c.args.who.number (seen_at o) new × (m.reply_of (state_after m start new) c.args.who c.args.op ≡ None)) (sym is) (grew, not)
 
 pub returns-in-Err-clause-visited : goal.returns-in-Err-clause-visited

@@ -12,9 +12,15 @@ put_together-requires c =
     let at = c.args.caller.player in
     let same = c.cells.ensures.cells in
     let playing = subst (λ (o : Option Passes). IsAtDesk k.cells k.scenario at o) c.in-Some.is c.requires.own in
-    record { all = (k.scenario, c.args.players.now.items, at,
+    record {
+      all = (
+        k.scenario,
+        c.args.players.now.items,
+        at,
         subst (λ (cs : Cells). AreTogether cs k.scenario c.args.players.now.items c.args.all) (sym same) c.requires.all,
-        subst (λ (cs : Cells). IsPlaying cs k.scenario at c.in-Some.passes) (sym same) playing) }
+        subst (λ (cs : Cells). IsPlaying cs k.scenario at c.in-Some.passes) (sym same) playing,
+      );
+    }
 
 pub returns-clause-all : goal.returns-clause-all
 returns-clause-all c =
@@ -24,7 +30,7 @@ returns-clause-all c =
     let same = c.cells.ensures.cells in
     let playing = subst (λ (o : Option Passes). IsAtDesk k.cells k.scenario at o) c.in-Some.is c.requires.own in
     let gathered = c.put_together.ensures k.scenario players at
-        (subst (λ (cs : Cells). AreTogether cs k.scenario players c.args.all) (sym same) c.requires.all)
-        (subst (λ (cs : Cells). IsPlaying cs k.scenario at c.in-Some.passes) (sym same) playing) in
+    (subst (λ (cs : Cells). AreTogether cs k.scenario players c.args.all) (sym same) c.requires.all)
+    (subst (λ (cs : Cells). IsPlaying cs k.scenario at c.in-Some.passes) (sym same) playing) in
     subst (λ (ps : List PlayerPlace). AreGathered k.cells k.scenario ps c.put_together.result) (sym c.push_within.ensures.items)
     (subst (λ (cs : Cells). AreGathered cs k.scenario (players ++ at ∷ []) c.put_together.result) same gathered)

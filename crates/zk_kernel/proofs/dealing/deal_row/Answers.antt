@@ -14,7 +14,7 @@ loop-index-preserved g c =
     let len = c.push_within.ensures.len in
     let kept = c.push_within.ensures.capacity in
     let taken = taken-popped c.index_mut.result.now c.pop.new.self c.pop.result c.pop.ensures.items c.pop.ensures.rest
-        c.pop.ensures.cases in (
+    c.pop.ensures.cases in (
       subst (λ ps. TakenSoFar (l.index + 1) olds ps (set l.lists.items l.index c.pop.new.self))
           (sym c.push_within.ensures.items)
           (one-taken l.index olds l.row.items l.lists.items c.index_mut.result.now c.pop.result c.pop.new.self

@@ -38,9 +38,14 @@ empty_seat-requires g c =
     let end = c.len-index-end.ensures in
     let ok = c.args.cells.ok in
     let both = next-stands legal start history l.index all.0 cs0 ps0 l.cells.items l.passes.items l.services.items c.index_mut.result.now c.index_mut-in-loop-index.result.now l.invariant all.1 all.2 (omega arith)
-        c.index_mut.ensures.value c.index_mut-in-loop-index.ensures.value in
-    record { all = (all.0, subst (λ k. StandsIn legal start all.0 k c.take-pass.result) (sym c.take-cell.ensures.value) (subst (λ p. StandsIn legal start all.0 c.index_mut.result.now p) (sym c.take-pass.ensures.value) both.0),
-        subst (λ k. HasWhole (length all.0) k) (sym c.take-cell.ensures.value) both.1) }
+    c.index_mut.ensures.value c.index_mut-in-loop-index.ensures.value in
+    record {
+      all = (
+        all.0,
+        subst (λ k. StandsIn legal start all.0 k c.take-pass.result) (sym c.take-cell.ensures.value) (subst (λ p. StandsIn legal start all.0 c.index_mut.result.now p) (sym c.take-pass.ensures.value) both.0),
+        subst (λ k. HasWhole (length all.0) k) (sym c.take-cell.ensures.value) both.1,
+      );
+    }
 
 pub loop-index-preserved : goal.loop-index-preserved
 loop-index-preserved g c =
@@ -58,9 +63,9 @@ loop-index-preserved g c =
     let ok = c.args.cells.ok in
     subst (λ xs. CameOutSoFar legal start history (l.index + 1) cs0 ps0 (set l.cells.items l.index c.take-cell.new.self) (set l.passes.items l.index c.take-pass.new.self) xs) (sym c.in_ok-push.ensures.items)
     (one-out legal start history l.index cs0 ps0 l.cells.items l.passes.items l.services.items c.index_mut.result.now c.take-cell.new.self c.index_mut-in-loop-index.result.now c.take-pass.new.self c.empty_seat.result l.invariant many (omega arith)
-        c.index_mut.ensures.value c.index_mut-in-loop-index.ensures.value
-        (subst (λ k. IsClosed legal start history k c.index_mut-in-loop-index.result.now c.empty_seat.result) c.take-cell.ensures.value
-        (subst (λ p. IsClosed legal start history c.take-cell.result p c.empty_seat.result) c.take-pass.ensures.value c.empty_seat.ensures)))
+    c.index_mut.ensures.value c.index_mut-in-loop-index.ensures.value
+    (subst (λ k. IsClosed legal start history k c.index_mut-in-loop-index.result.now c.empty_seat.result) c.take-cell.ensures.value
+    (subst (λ p. IsClosed legal start history c.take-cell.result p c.empty_seat.result) c.take-pass.ensures.value c.empty_seat.ensures)))
 
 pub returns : goal.returns
 returns g c =
@@ -77,4 +82,3 @@ returns g c =
     let end = c.len-index-end.ensures in
     let ok = c.args.cells.ok in
     all-out legal start history l.index cs0 ps0 l.cells.items l.passes.items l.services.items l.invariant (omega arith) many
-

@@ -30,10 +30,10 @@ returns-clause-own g c =
     let kernel = c.cells-cells.ensures.made in
     let was = subst (λ (o : Option Passes). IsAtDesk k.cells k.scenario at o) (sym c.take.ensures.value ∙ c.in-Some.is) c.requires.own in
     let who = same-who false (cells_machines cells) c.scenario.result.now at made (desk_shown old) (desk_shown new) (desk_counts old) (desk_counts new) c.step-stepped.result
-        c.step-stepped.ensures.does c.step-stepped.ensures.unchanged in
+    c.step-stepped.ensures.does c.step-stepped.ensures.unchanged in
     let served = (c.step-stepped.ensures.serves at.who).0 (subst (λ (cs : Cells). IsServed cs old at.who) (sym same) was.served) in
     let does = subst (λ (s : Content). IfOk c.step-stepped.result (λ stepped. StepOutcome false (cells_machines cells) s at made (desk_shown old) (desk_shown new) (desk_counts old) (desk_counts new) stepped))
-        c.scenario.ensures.scenario c.step-stepped.ensures.does in
+    c.scenario.ensures.scenario c.step-stepped.ensures.does in
     record {
       served = subst (λ (w : Who). IsServed k.cells new w) (sym who) (subst (λ (cs : Cells). IsServed cs new at.who) (c.step-stepped.ensures.home ∙ same) served);
       sound = still-sound (cells_machines cells) k.scenario at made (desk_shown old) (desk_shown new) (desk_counts old) (desk_counts new) c.step-stepped.result
@@ -50,7 +50,7 @@ returns-clause-does g c =
     let cells = c.cells-cells.result.now in
     let machines = ap cells_machines c.cells-cells.ensures.cells ∙ c.cells-cells.ensures.made.machines in
     let does = subst (λ (s : Content). IfOk c.step-stepped.result (λ stepped. StepOutcome false (cells_machines cells) s at made (desk_shown old) (desk_shown new) (desk_counts old) (desk_counts new) stepped))
-        c.scenario.ensures.scenario c.step-stepped.ensures.does in
+    c.scenario.ensures.scenario c.step-stepped.ensures.does in
     let there = subst (λ (m : Machines). IfOk c.step-stepped.result (λ stepped. StepOutcome false m k.scenario at made (desk_shown old) (desk_shown new) (desk_counts old) (desk_counts new) stepped)) machines does in
     subst (λ (o : Option Passes). IfOk c.step-stepped.result (λ stepped. StepOutcome false (machines_of k.scenario) k.scenario at made (shown_by o) (desk_shown new) (counts_by o) (desk_counts new) stepped))
     (sym (sym c.take.ensures.value ∙ c.in-Some.is)) there

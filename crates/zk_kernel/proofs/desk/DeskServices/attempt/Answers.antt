@@ -107,7 +107,7 @@ pub returns-in_err-made-in-Sem-clause-serves : goal.returns-in_err-made-in-Sem-c
 returns-in_err-made-in-Sem-clause-serves g c =
     let p = c.args.self.now.passes in
     same-players c.args.self.now.cells.now p (record p { sems = c.visit_at.new.seats }) c.args.who c.requires.served
-    (record { work = c.requires.served.work; clock = c.requires.served.clock; table = c.requires.served.table; sems = subst (λ cs. AreSeats (IsLegal sem_machine) sem_start c.args.who cs c.visit_at.new.seats.items) c.deref.ensures.value c.visit_at.ensures.seats; msgqs = c.requires.served.msgqs; signals = c.requires.served.signals; chans = c.requires.served.chans; observers = c.requires.served.observers; })
+    (record { work = c.requires.served.work; clock = c.requires.served.clock; table = c.requires.served.table; sems = subst (λ cs. AreSeats (IsLegal sem_machine) sem_start c.args.who cs c.visit_at.new.seats.items) c.deref.ensures.value c.visit_at.ensures.seats; msgqs = c.requires.served.msgqs; signals = c.requires.served.signals; chans = c.requires.served.chans; observers = c.requires.served.observers })
 
 pub returns-in_ok-made-in-Sem-clause-attempted : goal.returns-in_ok-made-in-Sem-clause-attempted
 returns-in_ok-made-in-Sem-clause-attempted g c =
@@ -124,7 +124,7 @@ pub returns-in_ok-made-in-Sem-clause-serves : goal.returns-in_ok-made-in-Sem-cla
 returns-in_ok-made-in-Sem-clause-serves g c =
     let p = c.args.self.now.passes in
     same-players c.args.self.now.cells.now p (record p { sems = c.visit_at.new.seats }) c.args.who c.requires.served
-    (record { work = c.requires.served.work; clock = c.requires.served.clock; table = c.requires.served.table; sems = subst (λ cs. AreSeats (IsLegal sem_machine) sem_start c.args.who cs c.visit_at.new.seats.items) c.deref.ensures.value c.visit_at.ensures.seats; msgqs = c.requires.served.msgqs; signals = c.requires.served.signals; chans = c.requires.served.chans; observers = c.requires.served.observers; })
+    (record { work = c.requires.served.work; clock = c.requires.served.clock; table = c.requires.served.table; sems = subst (λ cs. AreSeats (IsLegal sem_machine) sem_start c.args.who cs c.visit_at.new.seats.items) c.deref.ensures.value c.visit_at.ensures.seats; msgqs = c.requires.served.msgqs; signals = c.requires.served.signals; chans = c.requires.served.chans; observers = c.requires.served.observers })
 
 pub visit_at-requires-in-Msgq-clause-later : goal.visit_at-requires-in-Msgq-clause-later
 visit_at-requires-in-Msgq-clause-later g c = λ h there.
@@ -140,7 +140,7 @@ pub returns-in_err-made-in-Msgq-clause-serves : goal.returns-in_err-made-in-Msgq
 returns-in_err-made-in-Msgq-clause-serves g c =
     let p = c.args.self.now.passes in
     same-players c.args.self.now.cells.now p (record p { msgqs = c.visit_at-in-Msgq.new.seats }) c.args.who c.requires.served
-    (record { work = c.requires.served.work; clock = c.requires.served.clock; table = c.requires.served.table; sems = c.requires.served.sems; msgqs = subst (λ cs. AreSeats (IsLegal msgq_machine) msgq_start c.args.who cs c.visit_at-in-Msgq.new.seats.items) c.deref-in-Msgq.ensures.value c.visit_at-in-Msgq.ensures.seats; signals = c.requires.served.signals; chans = c.requires.served.chans; observers = c.requires.served.observers; })
+    (record { work = c.requires.served.work; clock = c.requires.served.clock; table = c.requires.served.table; sems = c.requires.served.sems; msgqs = subst (λ cs. AreSeats (IsLegal msgq_machine) msgq_start c.args.who cs c.visit_at-in-Msgq.new.seats.items) c.deref-in-Msgq.ensures.value c.visit_at-in-Msgq.ensures.seats; signals = c.requires.served.signals; chans = c.requires.served.chans; observers = c.requires.served.observers })
 
 pub returns-in_ok-made-in-Msgq-clause-attempted : goal.returns-in_ok-made-in-Msgq-clause-attempted
 returns-in_ok-made-in-Msgq-clause-attempted g c =
@@ -157,7 +157,7 @@ pub returns-in_ok-made-in-Msgq-clause-serves : goal.returns-in_ok-made-in-Msgq-c
 returns-in_ok-made-in-Msgq-clause-serves g c =
     let p = c.args.self.now.passes in
     same-players c.args.self.now.cells.now p (record p { msgqs = c.visit_at-in-Msgq.new.seats }) c.args.who c.requires.served
-    (record { work = c.requires.served.work; clock = c.requires.served.clock; table = c.requires.served.table; sems = c.requires.served.sems; msgqs = subst (λ cs. AreSeats (IsLegal msgq_machine) msgq_start c.args.who cs c.visit_at-in-Msgq.new.seats.items) c.deref-in-Msgq.ensures.value c.visit_at-in-Msgq.ensures.seats; signals = c.requires.served.signals; chans = c.requires.served.chans; observers = c.requires.served.observers; })
+    (record { work = c.requires.served.work; clock = c.requires.served.clock; table = c.requires.served.table; sems = c.requires.served.sems; msgqs = subst (λ cs. AreSeats (IsLegal msgq_machine) msgq_start c.args.who cs c.visit_at-in-Msgq.new.seats.items) c.deref-in-Msgq.ensures.value c.visit_at-in-Msgq.ensures.seats; signals = c.requires.served.signals; chans = c.requires.served.chans; observers = c.requires.served.observers })
 
 pub visit_at-requires-in-Signal-clause-later : goal.visit_at-requires-in-Signal-clause-later
 visit_at-requires-in-Signal-clause-later g c = λ h there.
@@ -173,7 +173,7 @@ pub returns-in_err-made-in-Signal-clause-serves : goal.returns-in_err-made-in-Si
 returns-in_err-made-in-Signal-clause-serves g c =
     let p = c.args.self.now.passes in
     same-players c.args.self.now.cells.now p (record p { signals = c.visit_at-in-Signal.new.seats }) c.args.who c.requires.served
-    (record { work = c.requires.served.work; clock = c.requires.served.clock; table = c.requires.served.table; sems = c.requires.served.sems; msgqs = c.requires.served.msgqs; signals = subst (λ cs. AreSeats (IsLegal signal_machine) signal_start c.args.who cs c.visit_at-in-Signal.new.seats.items) c.deref-in-Signal.ensures.value c.visit_at-in-Signal.ensures.seats; chans = c.requires.served.chans; observers = c.requires.served.observers; })
+    (record { work = c.requires.served.work; clock = c.requires.served.clock; table = c.requires.served.table; sems = c.requires.served.sems; msgqs = c.requires.served.msgqs; signals = subst (λ cs. AreSeats (IsLegal signal_machine) signal_start c.args.who cs c.visit_at-in-Signal.new.seats.items) c.deref-in-Signal.ensures.value c.visit_at-in-Signal.ensures.seats; chans = c.requires.served.chans; observers = c.requires.served.observers })
 
 pub returns-in_ok-made-in-Signal-clause-attempted : goal.returns-in_ok-made-in-Signal-clause-attempted
 returns-in_ok-made-in-Signal-clause-attempted g c =
@@ -190,7 +190,7 @@ pub returns-in_ok-made-in-Signal-clause-serves : goal.returns-in_ok-made-in-Sign
 returns-in_ok-made-in-Signal-clause-serves g c =
     let p = c.args.self.now.passes in
     same-players c.args.self.now.cells.now p (record p { signals = c.visit_at-in-Signal.new.seats }) c.args.who c.requires.served
-    (record { work = c.requires.served.work; clock = c.requires.served.clock; table = c.requires.served.table; sems = c.requires.served.sems; msgqs = c.requires.served.msgqs; signals = subst (λ cs. AreSeats (IsLegal signal_machine) signal_start c.args.who cs c.visit_at-in-Signal.new.seats.items) c.deref-in-Signal.ensures.value c.visit_at-in-Signal.ensures.seats; chans = c.requires.served.chans; observers = c.requires.served.observers; })
+    (record { work = c.requires.served.work; clock = c.requires.served.clock; table = c.requires.served.table; sems = c.requires.served.sems; msgqs = c.requires.served.msgqs; signals = subst (λ cs. AreSeats (IsLegal signal_machine) signal_start c.args.who cs c.visit_at-in-Signal.new.seats.items) c.deref-in-Signal.ensures.value c.visit_at-in-Signal.ensures.seats; chans = c.requires.served.chans; observers = c.requires.served.observers })
 
 pub visit_at-requires-in-Chan-clause-later : goal.visit_at-requires-in-Chan-clause-later
 visit_at-requires-in-Chan-clause-later g c = λ h there.
@@ -206,7 +206,7 @@ pub returns-in_err-made-in-Chan-clause-serves : goal.returns-in_err-made-in-Chan
 returns-in_err-made-in-Chan-clause-serves g c =
     let p = c.args.self.now.passes in
     same-players c.args.self.now.cells.now p (record p { chans = c.visit_at-in-Chan.new.seats }) c.args.who c.requires.served
-    (record { work = c.requires.served.work; clock = c.requires.served.clock; table = c.requires.served.table; sems = c.requires.served.sems; msgqs = c.requires.served.msgqs; signals = c.requires.served.signals; chans = subst (λ cs. AreSeats (IsLegal chan_machine) chan_start c.args.who cs c.visit_at-in-Chan.new.seats.items) c.deref-in-Chan.ensures.value c.visit_at-in-Chan.ensures.seats; observers = c.requires.served.observers; })
+    (record { work = c.requires.served.work; clock = c.requires.served.clock; table = c.requires.served.table; sems = c.requires.served.sems; msgqs = c.requires.served.msgqs; signals = c.requires.served.signals; chans = subst (λ cs. AreSeats (IsLegal chan_machine) chan_start c.args.who cs c.visit_at-in-Chan.new.seats.items) c.deref-in-Chan.ensures.value c.visit_at-in-Chan.ensures.seats; observers = c.requires.served.observers })
 
 pub returns-in_ok-made-in-Chan-clause-attempted : goal.returns-in_ok-made-in-Chan-clause-attempted
 returns-in_ok-made-in-Chan-clause-attempted g c =
@@ -223,7 +223,7 @@ pub returns-in_ok-made-in-Chan-clause-serves : goal.returns-in_ok-made-in-Chan-c
 returns-in_ok-made-in-Chan-clause-serves g c =
     let p = c.args.self.now.passes in
     same-players c.args.self.now.cells.now p (record p { chans = c.visit_at-in-Chan.new.seats }) c.args.who c.requires.served
-    (record { work = c.requires.served.work; clock = c.requires.served.clock; table = c.requires.served.table; sems = c.requires.served.sems; msgqs = c.requires.served.msgqs; signals = c.requires.served.signals; chans = subst (λ cs. AreSeats (IsLegal chan_machine) chan_start c.args.who cs c.visit_at-in-Chan.new.seats.items) c.deref-in-Chan.ensures.value c.visit_at-in-Chan.ensures.seats; observers = c.requires.served.observers; })
+    (record { work = c.requires.served.work; clock = c.requires.served.clock; table = c.requires.served.table; sems = c.requires.served.sems; msgqs = c.requires.served.msgqs; signals = c.requires.served.signals; chans = subst (λ cs. AreSeats (IsLegal chan_machine) chan_start c.args.who cs c.visit_at-in-Chan.new.seats.items) c.deref-in-Chan.ensures.value c.visit_at-in-Chan.ensures.seats; observers = c.requires.served.observers })
 
 pub visit_at-requires-in-Obs-clause-later : goal.visit_at-requires-in-Obs-clause-later
 visit_at-requires-in-Obs-clause-later g c = λ h there.
@@ -239,7 +239,7 @@ pub returns-in_err-made-in-Obs-clause-serves : goal.returns-in_err-made-in-Obs-c
 returns-in_err-made-in-Obs-clause-serves g c =
     let p = c.args.self.now.passes in
     same-players c.args.self.now.cells.now p (record p { observers = c.visit_at-in-Obs.new.seats }) c.args.who c.requires.served
-    (record { work = c.requires.served.work; clock = c.requires.served.clock; table = c.requires.served.table; sems = c.requires.served.sems; msgqs = c.requires.served.msgqs; signals = c.requires.served.signals; chans = c.requires.served.chans; observers = subst (λ cs. AreSeats (IsLegal obs_machine) obs_start c.args.who cs c.visit_at-in-Obs.new.seats.items) c.deref-in-Obs.ensures.value c.visit_at-in-Obs.ensures.seats; })
+    (record { work = c.requires.served.work; clock = c.requires.served.clock; table = c.requires.served.table; sems = c.requires.served.sems; msgqs = c.requires.served.msgqs; signals = c.requires.served.signals; chans = c.requires.served.chans; observers = subst (λ cs. AreSeats (IsLegal obs_machine) obs_start c.args.who cs c.visit_at-in-Obs.new.seats.items) c.deref-in-Obs.ensures.value c.visit_at-in-Obs.ensures.seats })
 
 pub returns-in_ok-made-in-Obs-clause-attempted : goal.returns-in_ok-made-in-Obs-clause-attempted
 returns-in_ok-made-in-Obs-clause-attempted g c =
@@ -256,7 +256,7 @@ pub returns-in_ok-made-in-Obs-clause-serves : goal.returns-in_ok-made-in-Obs-cla
 returns-in_ok-made-in-Obs-clause-serves g c =
     let p = c.args.self.now.passes in
     same-players c.args.self.now.cells.now p (record p { observers = c.visit_at-in-Obs.new.seats }) c.args.who c.requires.served
-    (record { work = c.requires.served.work; clock = c.requires.served.clock; table = c.requires.served.table; sems = c.requires.served.sems; msgqs = c.requires.served.msgqs; signals = c.requires.served.signals; chans = c.requires.served.chans; observers = subst (λ cs. AreSeats (IsLegal obs_machine) obs_start c.args.who cs c.visit_at-in-Obs.new.seats.items) c.deref-in-Obs.ensures.value c.visit_at-in-Obs.ensures.seats; })
+    (record { work = c.requires.served.work; clock = c.requires.served.clock; table = c.requires.served.table; sems = c.requires.served.sems; msgqs = c.requires.served.msgqs; signals = c.requires.served.signals; chans = c.requires.served.chans; observers = subst (λ cs. AreSeats (IsLegal obs_machine) obs_start c.args.who cs c.visit_at-in-Obs.new.seats.items) c.deref-in-Obs.ensures.value c.visit_at-in-Obs.ensures.seats })
 
 pub look-word-requires-clause-later : goal.look-word-requires-clause-later
 look-word-requires-clause-later g c = above-work (desk_shown c.args.self.now.passes) c.args.who.number c.args.number c.requires.later
@@ -281,4 +281,4 @@ pub returns-in-LookSignal-clause-serves : goal.returns-in-LookSignal-clause-serv
 returns-in-LookSignal-clause-serves g c =
     let p = c.args.self.now.passes in
     same-players c.args.self.now.cells.now p (record p { signals = c.see_at-seen.new.seats }) c.args.who c.requires.served
-    (record { work = c.requires.served.work; clock = c.requires.served.clock; table = c.requires.served.table; sems = c.requires.served.sems; msgqs = c.requires.served.msgqs; signals = subst (λ cs. AreSeats (IsLegal signal_machine) signal_start c.args.who cs c.see_at-seen.new.seats.items) c.deref-in-LookSignal.ensures.value c.see_at-seen.ensures.seats; chans = c.requires.served.chans; observers = c.requires.served.observers; })
+    (record { work = c.requires.served.work; clock = c.requires.served.clock; table = c.requires.served.table; sems = c.requires.served.sems; msgqs = c.requires.served.msgqs; signals = subst (λ cs. AreSeats (IsLegal signal_machine) signal_start c.args.who cs c.see_at-seen.new.seats.items) c.deref-in-LookSignal.ensures.value c.see_at-seen.ensures.seats; chans = c.requires.served.chans; observers = c.requires.served.observers })

@@ -28,8 +28,13 @@ empty_cells-requires c =
     let same = c.into_parts-cells.ensures.cells in
     let many = many-players k c.args.callers.items players c.requires.all c.in_ok-all.ensures.players in
     let whole = subst (AreWhole k.cells) (sym (length-map players (λ (a : PlayerPlace). a.who) ∙ many)) c.into_parts-cells.ensures.made.whole in
-    record { all = (whos players, subst (λ (cs : Cells). AreFor cs (whos players) c.in_ok-all.all) (sym same) gathered.stand,
-        subst (λ (cs : Cells). AreWhole cs (length (whos players))) (sym same) whole) }
+    record {
+      all = (
+        whos players,
+        subst (λ (cs : Cells). AreFor cs (whos players) c.in_ok-all.all) (sym same) gathered.stand,
+        subst (λ (cs : Cells). AreWhole cs (length (whos players))) (sym same) whole,
+      );
+    }
 
 pub of-requires-clause-sound : goal.of-requires-clause-sound
 of-requires-clause-sound c =
@@ -47,14 +52,16 @@ of-requires-clause-sound c =
     let legal = subst (λ (m : Machines). IsLegalShown m (desk_shown all)) (ap cells_machines same ∙ made.machines) services.legal in
     let short = subst (λ (n : ℕ). AreWithin (desk_shown all) (room_of_a_pass * n)) long (services.short (whos players) whole) in
     let sound = left-sound k.scenario (desk_shown all) players made.valid many (numbered k c.args.callers.items players c.requires.all c.in_ok-all.ensures.players) gathered.kept
-        legal (services.mine (whos players) stand) refl refl short in
+    legal (services.mine (whos players) stand) refl refl short in
     subst (λ (s : Content). IsSound s (world (plain_shown c.in_ok-services.services) players)) (sym c.into_parts-cells.ensures.scenario)
     (subst (λ (h : Shown). IsSound k.scenario (world h players)) (sym services.shown) sound)
 
 pub returns : goal.returns
 returns c =
-    record { closed = record {
-      scenario = ap (λ (l : Left). l.scenario) c.of.ensures.rest ∙ c.into_parts-cells.ensures.scenario;
-      players = ap (λ (l : Left). l.world.players) c.of.ensures.rest ∙ c.in_ok-all.ensures.players;
-      sound = c.of.ensures.sound;
-    } }
+    record {
+      closed = record {
+        scenario = ap (λ (l : Left). l.scenario) c.of.ensures.rest ∙ c.into_parts-cells.ensures.scenario;
+        players = ap (λ (l : Left). l.world.players) c.of.ensures.rest ∙ c.in_ok-all.ensures.players;
+        sound = c.of.ensures.sound;
+      };
+    }

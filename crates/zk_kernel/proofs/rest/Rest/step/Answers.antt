@@ -42,10 +42,11 @@ invariant_of-self c =
     let players = inside.players in
     let at = c.index_mut-player.result.now in
     let view = ap (λ (l : Left). length l.world.players) c.self.view_is in
-    let is : slice_get players.items c.args.number ≡ Some at = slice_get_read players.items (length players.items) c.args.number at refl (omega (arith, view, c.requires.player, players.ok.0)) c.index_mut-player.ensures.value in
-    (c.step.ensures.machines ∙ c.self.invariant.0,
+    let is : slice_get players.items c.args.number ≡ Some at = slice_get_read players.items (length players.items) c.args.number at refl (omega (arith, view, c.requires.player, players.ok.0)) c.index_mut-player.ensures.value in (
+      c.step.ensures.machines ∙ c.self.invariant.0,
       result-sound (plain_machines inside.services) inside.scenario at c.step.new.self (plain_shown inside.services) (plain_shown c.step.new.services) players.items c.args.number uncounted uncounted c.step.result
-      c.self.invariant.0 c.self.invariant.1 is c.step.ensures.does c.step.ensures.unchanged c.step.ensures.err)
+          c.self.invariant.0 c.self.invariant.1 is c.step.ensures.does c.step.ensures.unchanged c.step.ensures.err,
+    )
 
 pub returns-clause-does : goal.returns-clause-does
 returns-clause-does c =

@@ -7,7 +7,7 @@ use Rattle.zk_kernel.specs.Joined.{whos}
 use Rattle.zk_kernel.specs.Kernels.{Shared}
 use Rattle.zk_kernel.specs.Opened.{AreNewCallers}
 use Rattle.zk_kernel.proofs.NewCallers.{ArePlayers, unused-all, whos-differ, whos-few, made-for, callers-new}
-use Rattle.zk_kernel.proofs.opening.Kernel.new.Goals as goal
+use Rattle.zk_kernel.proofs.kernel.Kernel.new.Goals as goal
 
 pub open_cells-requires-clause-unused : goal.open_cells-requires-clause-unused
 open_cells-requires-clause-unused c =
