@@ -49,5 +49,7 @@ caller_send S O R T s =
 pub cell_sync : (S O R T : RattleType) (g : Ghosts S.Denot O.Denot R.Denot T.Denot) → IsSend S → IsSync (cell.the_row S O R T g)
 cell_sync S O R T g s =
     recorded_sync _ _ _ (cell.the_type S O R T g).to_one
-    (struct_sync (shape (cell.the_type S O R T g)) (search (sendable, option_send, shared.the_sync, lease.the_sync, heap.sync, heap.send, heap.frees) depth 24,
-    (search heap.crosses depth 4, tt)))
+    (struct_sync (shape (cell.the_type S O R T g)) (
+      search (sendable, option_send, shared.the_sync, lease.the_sync, heap.sync, heap.send, heap.frees) depth 24,
+      (search heap.crosses depth 4, tt),
+    ))
