@@ -36,10 +36,12 @@ trace_of-requires c =
     let old = world (plain_shown c.in_ok-services.services) c.in_ok-players.players.items in
     let new = world (plain_shown c.play_rounds.new.services) c.play_rounds.new.players.items in
     let so_far = c.in_ok-play_rounds.ensures.rounds in
-    record { sound = run-sound s new c.first_services.ensures.valid
-    (run-from s old new so_far.0
-    (world-first s (plain_shown c.in_ok-services.services) c.in_ok-players.players.items c.in_ok-services.ensures.shown c.in_ok-players.ensures)
-    so_far.1 c.in_ok-play_rounds.ensures.over) }
+    record {
+      sound = run-sound s new c.first_services.ensures.valid
+          (run-from s old new so_far.0
+          (world-first s (plain_shown c.in_ok-services.services) c.in_ok-players.players.items c.in_ok-services.ensures.shown c.in_ok-players.ensures)
+          so_far.1 c.in_ok-play_rounds.ensures.over);
+    }
 
 pub returns-clause-replay : goal.returns-clause-replay
 returns-clause-replay c =
