@@ -20,6 +20,16 @@ use Rattle.zk_kernel.specs.Closed.{AreBy}
 use Rattle.zk_kernel.proofs.Unpacking.{histories-out, starts-out, legal-out, within-out, mine-out, legal-moved, short-moved}
 use Rattle.zk_kernel.proofs.emptying.empty_cells.Goals as goal
 
+pub empty_one-requires-2 : goal.empty_one-requires-2
+empty_one-requires-2 c =
+    let all = c.requires.all in
+    record { all = (all.0, all.1.clock, all.2.clock) }
+
+pub empty_one-requires-3 : goal.empty_one-requires-3
+empty_one-requires-3 c =
+    let all = c.requires.all in
+    record { all = (all.0, all.1.table, all.2.table) }
+
 pub returns-clause-machines : goal.returns-clause-machines
 returns-clause-machines c =
     let k = c.args.cells in
