@@ -1,7 +1,8 @@
-ghost use Rattle.std.specs.Prelude.{◌≡◌, ℕ, ◌<◌, ◌≤◌, Bool, slice_get, reverse, length, IfOk, OnErr, Some};
+ghost use Rattle.std.specs.Prelude.{◌≡◌, ℕ, ◌<◌, ◌≤◌, Bool, slice_get, reverse, length, IfOk, OnErr, Some, option_copied};
 ghost use Rattle.zk_scenario.specs.Players.{players, prio_of};
 ghost use Rattle.zk_scenario.specs.Valid.{IsValid};
 ghost use Rattle.zk_worker.specs.Checks.{next_check};
+ghost use Rattle.zk_worker.specs.Next.{next_call};
 ghost use Rattle.zk_worker.specs.Protocol.{attempts, after, frames_progress, checked, moved, spot_of, start_at, starting, role_at, IsAhead};
 ghost use Rattle.zk_worker.specs.Follows.{state_at, log_of, is_done, is_through, is_between, is_spent_at, StandsMore, IsFollowing};
 ghost use Rattle.zk_worker.specs.Ranges.{IsFit, ReplyFits, PassesFit};
@@ -13,7 +14,9 @@ ghost use Rattle.zk_worker.specs.Attempt.{IsMade};
 use crate::checks::{check_step, mode_after, next_check, oops_in, start_mode};
 use crate::frames::MOST_FRAMES;
 use crate::protocol::spot_of;
-use crate::stack::{frames_ahead, frames_progress, move_frames, open_frame, put_answer, settle};
+use crate::stack::{
+    frames_ahead, frames_progress, move_frames, open_frame, put_answer, settle, top_call,
+};
 use crate::{
     Answer, Answered, Answers, Check, Frame, Log, Mode, PlayerState, Progress, Role, Spot, Spots,
     Stage, Step, StepReply, Word,
@@ -22,7 +25,7 @@ use std::alloc::Global;
 use std::marker::Model;
 use zk_base::{NoMemory, Who, push_within};
 use zk_model_bus::OopsWhy;
-use zk_scenario::{Decl, MOST_STEPS, Scenario};
+use zk_scenario::{Call, Decl, MOST_STEPS, Scenario};
 
 /// A player of a scenario, and what it has done.
 ///
@@ -175,6 +178,17 @@ impl Player {
             Some(_) => None,
             None => frames_ahead(scenario, &self.stack, index),
         }
+    }
+
+    /// The call that it makes next: the next one of its innermost open script. There is none while one of that script is
+    /// begun and not yet answered, between a worker's runs, and behind the last call.
+    pub fn next_call<'s>(&self, scenario: &'s Scenario) -> Option<&'s Call>
+        ensures { option_copied result ≡ next_call scenario.now self.now }
+    {
+        if self.passed != 0 {
+            return None;
+        }
+        top_call(scenario, &self.stack)
     }
 
     /// Adds one of these attempts, which was answered so.

@@ -1,6 +1,7 @@
 ghost use Rattle.std.specs.Prelude.{◌≡◌, slice_get, reverse, option_copied};
 ghost use Rattle.zk_line.specs.Objects.{places, is_item};
 ghost use Rattle.zk_scenario.specs.Players.{players, calls_of};
+ghost use Rattle.zk_worker.specs.Next.{role_call};
 ghost use Rattle.zk_worker.specs.Protocol.{worker_attempts, role_attempts, run_progress, worker_progress, role_progress, is_over, place_of, found_flags, found_seen, spot_of};
 
 use crate::calls::{call_ahead, call_progress};
@@ -14,6 +15,16 @@ pub fn call_at(scenario: &Scenario, owner: u32, next: u32) -> Option<&Call>
     ensures { option_copied result ≡ slice_get (calls_of scenario.now.scripts owner) next }
 {
     scenario.calls(owner).get(next as usize)
+}
+
+/// The next call of an open script, where it isn't begun.
+pub fn role_call<'s>(scenario: &'s Scenario, frame: &Frame) -> Option<&'s Call>
+    ensures { option_copied result ≡ role_call scenario.now frame.now.role frame.now.next frame.now.stage }
+{
+    match (frame.role, &frame.stage) {
+        (Role::Script(owner), Stage::Start) => call_at(scenario, owner, frame.next),
+        _ => None,
+    }
 }
 
 fn item_object(scenario: &Scenario, item: u32) -> Option<u32>

@@ -1,13 +1,14 @@
 ghost use Rattle.std.specs.Prelude.{◌≡◌, ◌+◌, ◌<◌, ◌≤◌, [], ◌∷◌, ◌++◌, slice_get, reverse, length, vec_len, vec_capacity, MatchOption, All, option_copied};
 ghost use Rattle.zk_scenario.specs.declared.scenario.TheConstants.{MOST_STEPS};
+ghost use Rattle.zk_worker.specs.Next.{top_call};
 ghost use Rattle.zk_worker.specs.Protocol.{frames_attempts, frames_progress, frames_after, settled, is_over, first_frame, entered, answers_after};
 ghost use Rattle.zk_worker.specs.Stacks.{is_top_over};
 
 use crate::frames::MOST_FRAMES;
-use crate::protocol::{is_over, role_ahead, role_progress};
+use crate::protocol::{is_over, role_ahead, role_call, role_progress};
 use crate::{Answered, Frame, Progress, Role, Stage, Step, StepReply};
 use zk_base::push_within;
-use zk_scenario::Scenario;
+use zk_scenario::{Call, Scenario};
 
 // The innermost frame is the last of the stack.
 
@@ -39,6 +40,16 @@ fn top_frame(stack: &[Frame]) -> Option<&Frame>
     ensures { option_copied result ≡ slice_get (reverse stack.now) 0 }
 {
     stack.last()
+}
+
+/// The next call of the innermost open script, where it isn't begun.
+pub fn top_call<'s>(scenario: &'s Scenario, stack: &[Frame]) -> Option<&'s Call>
+    ensures { option_copied result ≡ top_call scenario.now (reverse stack.now) }
+{
+    match top_frame(stack) {
+        Some(frame) => role_call(scenario, frame),
+        None => None,
+    }
 }
 
 /// The attempt of this index among the next attempts.
