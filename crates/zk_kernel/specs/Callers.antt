@@ -1,9 +1,13 @@
 -- A player with its passes of a kernel.
-use Rattle.std.specs.Prelude.{◌≡◌, ℕ, Bool, ◌&&◌, not, Option, Some, None, []}
+use Rattle.std.specs.Prelude.{◌≡◌, ℕ, Bool, ◌&&◌, not, Option, Some, None, Result, Ok, []}
+use Rattle.zk_base.specs.declared.errors.NoMemory.{NoMemory}
 use Rattle.zk_scenario.specs.Content.{Content}
 use Rattle.zk_worker.specs.Attempt.{Counts}
 use Rattle.zk_worker.specs.Follows.{is_dead}
 use Rattle.zk_worker.specs.Places.{PlayerPlace}
+use Rattle.zk_worker.specs.Protocol.{after}
+use Rattle.zk_worker.specs.declared.steps.Step.{Step}
+use Rattle.zk_worker.specs.declared.steps.StepReply.{StepReply}
 use Rattle.zk_worker.specs.Shown.{Shown, nothing_shown}
 use Rattle.zk_world.specs.SoundPlayer.{IsSoundPlayer}
 use Rattle.zk_kernel.specs.declared.caller.Caller.{Caller}
@@ -41,6 +45,11 @@ counts_by (Some p) = desk_counts p
 -- how many turns the caller had at each service
 abbrev pub counts_of : Caller → Counts
 counts_of c = counts_by c.passes
+
+-- where a player stands after an attempt, by what it gave
+abbrev pub attempted_at : Content → PlayerPlace → Step → Result (Option StepReply) NoMemory → PlayerPlace
+attempted_at s at step (Ok (Some reply)) = after s at step reply
+attempted_at s at step given = at
 
 -- a player may play with these passes: they serve it, and show just its log
 pub record IsPlaying (cells : Cells) (s : Content) (at : PlayerPlace) (p : Passes) : Type 0 where

@@ -1,4 +1,5 @@
 pub mod Callers
+pub mod Calling
 pub mod Closed
 pub mod Dealt
 pub mod Desks
@@ -8,3 +9,4 @@ pub mod Opened
 pub mod Rests
 pub mod Rows
 pub mod Seats
+pub mod Within

@@ -1,4 +1,5 @@
-ghost use Rattle.std.specs.Prelude.{◌≡◌, ◌≤◌, false, ℕ, length, slice_get, IfOk, OnErr};
+ghost use Rattle.std.specs.Prelude.{◌≡◌, ◌≤◌, false, ℕ, length, slice_get, option_copied, IfOk, OnErr};
+ghost use Rattle.zk_worker.specs.Next.{next_call};
 ghost use Rattle.zk_scenario.specs.declared.scenario.TheConstants.{MOST_STEPS};
 ghost use Rattle.zk_worker.specs.Machines.{machines_of};
 ghost use Rattle.zk_worker.specs.Playing.{StepOutcome};
@@ -11,6 +12,7 @@ use crate::kernel::Kernel;
 use crate::passes::Passes;
 use std::sync::Wait;
 use zk_base::{NoMemory, Who};
+use zk_line::Call;
 use zk_worker::{Mode, Player, Step, Stepped};
 
 /// One player at a kernel: a pass for each of its services, and the player's own log.
@@ -46,6 +48,13 @@ impl Caller {
         ensures { result ≡ lives self.now }
     {
         !self.stopped && self.player.mode() != Mode::Dead
+    }
+
+    /// The call that the player makes next, if it is at the beginning of one.
+    pub fn next_call<'k>(&self, kernel: &'k Kernel) -> Option<&'k Call>
+        ensures { option_copied result ≡ next_call kernel.now.scenario (place_of self.now) }
+    {
+        self.player.next_call(kernel.scenario())
     }
 
     /// The attempt of this index, from 0, among those that the player makes next.
@@ -87,6 +96,9 @@ impl Caller {
             passes,
         } = desk;
         self.passes = Some(passes);
+        if let Ok(Stepped::Did) = stepped {
+            kernel.news().tell(rt);
+        }
         stepped
     }
 }

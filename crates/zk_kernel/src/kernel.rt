@@ -3,6 +3,7 @@ ghost use Rattle.zk_scenario.specs.Valid.{IsValid};
 ghost use Rattle.zk_kernel.specs.Kernels.{IsMadeFor};
 
 use crate::cells::Cells;
+use crate::news::News;
 use std::marker::Model;
 use zk_scenario::Scenario;
 
@@ -14,6 +15,7 @@ use zk_scenario::Scenario;
 pub struct Kernel {
     cells: Cells,
     scenario: Scenario,
+    news: News,
 }
 
 impl Model for Kernel {
@@ -32,7 +34,11 @@ impl Kernel {
         requires { IsMadeFor cells scenario }
         ensures { result ≡ record { cells = cells; scenario = scenario } }
     {
-        Kernel { cells, scenario }
+        Kernel {
+            cells,
+            scenario,
+            news: News::new(),
+        }
     }
 
     /// The services, each in its cell.
@@ -49,6 +55,11 @@ impl Kernel {
         ensures valid { IsValid self.now.scenario }
     {
         &self.scenario
+    }
+
+    /// For callers that wait for one another.
+    pub(crate) fn news(&self) -> &News {
+        &self.news
     }
 
     /// The services and the scenario.

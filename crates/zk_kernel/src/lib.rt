@@ -4,6 +4,7 @@
 mod at_cell;
 mod at_cells;
 mod caller;
+mod calling;
 mod cells;
 mod close;
 mod dealing;
@@ -12,10 +13,13 @@ mod emptying;
 mod joining;
 mod kernel;
 mod looking;
+mod news;
 mod opening;
 mod passes;
 mod rest;
+mod stop;
 
 pub use caller::Caller;
 pub use kernel::Kernel;
 pub use rest::Rest;
+pub use stop::Stop;

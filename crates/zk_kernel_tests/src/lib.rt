@@ -1,0 +1,17 @@
+//! The shared kernel as its callers use it, on one thread and on many, and the tests of it.
+#![tactic(auto)]
+
+mod parts;
+mod rounds;
+
+#[cfg(test)]
+mod call_tests;
+#[cfg(test)]
+mod round_tests;
+#[cfg(test)]
+mod scenarios;
+#[cfg(test)]
+mod thread_tests;
+
+pub use parts::{play_calls, play_each, play_steps};
+pub use rounds::{finish, play_rounds};
