@@ -23,6 +23,8 @@ use zk_uses::{
 };
 use zk_work::Work;
 
+mod kernel_times;
+
 const FIRST: Who = Who { number: 0, prio: 0 };
 
 const SECOND: Who = Who { number: 1, prio: 0 };
@@ -194,5 +196,6 @@ fn main(rt: HostRuntime) -> io::Result<()> {
     turns_of_two(&rt)?;
     turns_of_four(&rt)?;
     own_cells(&rt)?;
-    locks(&rt)
+    locks(&rt)?;
+    kernel_times::kernel_times(&rt)
 }
