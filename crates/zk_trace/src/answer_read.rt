@@ -10,6 +10,7 @@ use crate::flags::flags_of;
 use crate::halves::sides_of;
 use crate::look_read::{can_be, raised_of};
 use crate::look_ups::chan_of;
+use crate::matching::is_same;
 use crate::messages::message_of;
 use crate::numerals::{narrow_of, short_of, wide_of};
 use crate::row_words::{oops_of, ready_of, two_words};
@@ -74,7 +75,7 @@ fn call_of(word: &[u8]) -> Option<Word>
 fn is_spelled(call: Word, word: &[u8]) -> bool
     ensures { result ≡ bytes_eq word.now (call_word call) }
 {
-    word == call_word(call)
+    is_same(word, call_word(call))
 }
 
 /// With what a call can be refused.
@@ -118,7 +119,7 @@ fn one_of(errnos: &[Errno], row: &[u8]) -> Option<Errno>
     errnos
         .iter()
         .copied()
-        .find(|errno| row == errno_word(*errno))
+        .find(|errno| is_same(row, errno_word(*errno)))
 }
 
 /// What a signal was.

@@ -7,6 +7,7 @@ ghost use Rattle.zk_trace.specs.Static.{static_row};
 use crate::chan::{Verb, reply_parts, verb_word};
 use crate::choosing::first_of;
 use crate::look_ups::observer_of;
+use crate::matching::is_same;
 use crate::messages::message_of;
 use crate::numerals::wide_of;
 use crate::parts::static_row;
@@ -43,7 +44,10 @@ pub fn op_of(scenario: &Scenario, words: Words<'_>) -> Option<ChanOp>
 fn verb_of(word: &[u8]) -> Option<Verb>
     ensures { result ≡ verb_of word.now }
 {
-    VERBS.iter().copied().find(|verb| word == verb_word(*verb))
+    VERBS
+        .iter()
+        .copied()
+        .find(|verb| is_same(word, verb_word(*verb)))
 }
 
 fn op_behind(scenario: &Scenario, verb: Verb, words: Words<'_>) -> Option<ChanOp>
@@ -91,8 +95,9 @@ pub fn reply_of(scenario: &Scenario, verb: Verb, row: &[u8]) -> Option<ChanReply
     }
 }
 
+#[inline(always)]
 fn is_written(reply: ChanReply, row: &[u8]) -> bool
     ensures { result ≡ bytes_eq row.now (static_row (reply_parts reply)) }
 {
-    row == static_row(&reply_parts(&reply))
+    is_same(row, static_row(&reply_parts(&reply)))
 }

@@ -6,6 +6,7 @@ ghost use Rattle.zk_trace.specs.Static.{static_row};
 
 use crate::choosing::first_of;
 use crate::clock::{Verb, reply_parts, verb_word};
+use crate::matching::is_same;
 use crate::numerals::{narrow_of, wide_of};
 use crate::parts::{FixedWord, fixed_word, static_row};
 use crate::row_words::{behind, one_word};
@@ -28,7 +29,10 @@ pub fn op_of(scenario: &Scenario, words: Words<'_>) -> Option<ClockOp>
 fn verb_of(word: &[u8]) -> Option<Verb>
     ensures { result ≡ verb_of word.now }
 {
-    VERBS.iter().copied().find(|verb| word == verb_word(*verb))
+    VERBS
+        .iter()
+        .copied()
+        .find(|verb| is_same(word, verb_word(*verb)))
 }
 
 fn op_behind(scenario: &Scenario, verb: Verb, words: Words<'_>) -> Option<ClockOp>
@@ -58,8 +62,9 @@ pub fn reply_of(scenario: &Scenario, verb: Verb, row: &[u8]) -> Option<ClockRepl
     }
 }
 
+#[inline(always)]
 fn is_written(reply: ClockReply, row: &[u8]) -> bool
     ensures { result ≡ bytes_eq row.now (static_row (reply_parts reply)) }
 {
-    row == static_row(&reply_parts(reply))
+    is_same(row, static_row(&reply_parts(reply)))
 }

@@ -6,6 +6,7 @@ ghost use Rattle.zk_trace.specs.WorkRead.{admitted_of, words_eq, submission_of, 
 
 use crate::choosing::first_of;
 use crate::look_ups::{item_of, queue_of};
+use crate::matching::is_same;
 use crate::numerals::admission_of;
 use crate::parts::{FixedWord, fixed_word, static_row};
 use crate::row_words::{one_word, two_words};
@@ -25,11 +26,11 @@ pub fn admitted_of<const SEPARATOR: u8>(
 {
     let mut words = words;
     let answer = words.next()?;
-    if answer == fixed_word(FixedWord::One) {
+    if is_same(answer, fixed_word(FixedWord::One)) {
         let (admission, queue) = two_words(words)?;
         return Some(Submitted::Fresh(admission_of(admission)?, queue_of(scenario, queue)?));
     }
-    if answer == fixed_word(FixedWord::Two) {
+    if is_same(answer, fixed_word(FixedWord::Two)) {
         let (admission, queue) = two_words(words)?;
         return Some(Submitted::Rerun(admission_of(admission)?, queue_of(scenario, queue)?));
     }
@@ -81,7 +82,7 @@ fn is_written(submitted: Submitted, pieces: Pieces<'_, COLON>) -> bool
     ensures { result ≡ words_eq pieces.entry (static_row (submitted_parts submitted) ∷ []) }
 {
     match one_word(pieces) {
-        Some(word) => word == static_row(&submitted_parts(submitted)),
+        Some(word) => is_same(word, static_row(&submitted_parts(submitted))),
         None => false,
     }
 }

@@ -21,6 +21,7 @@ mod logs_read;
 mod look_read;
 mod look_ups;
 mod looks;
+mod matching;
 mod messages;
 mod msgq;
 mod msgq_read;

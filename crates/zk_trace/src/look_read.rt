@@ -8,6 +8,7 @@ use crate::halves::sides_of;
 use crate::hints::Hints;
 use crate::look_ups::object_named;
 use crate::looks::{BUSY, CHECK, ItemLook, LOOK, STAMP, SignalLook, raised_word};
+use crate::matching::is_same;
 use crate::numerals::{narrow_of, short_of, wide_of};
 use crate::row_words::{behind, three_words, two_words};
 use crate::spot_read::step_of;
@@ -20,7 +21,7 @@ use zk_words::Words;
 fn same_word(this: &[u8], word: &[u8]) -> Option<()>
     ensures { result ≡ same_word this.now word.now }
 {
-    if word == this { Some(()) } else { None }
+    if is_same(word, this) { Some(()) } else { None }
 }
 
 /// Whether a signal was raised.
@@ -30,7 +31,7 @@ pub fn raised_of(word: &[u8]) -> Option<bool>
     [true, false]
         .iter()
         .copied()
-        .find(|raised| word == raised_word(*raised))
+        .find(|raised| is_same(word, raised_word(*raised)))
 }
 
 /// What a signal can have been: one that is clear has no result.

@@ -2,6 +2,7 @@ ghost use Rattle.std.specs.Prelude.{◌≡◌};
 ghost use Rattle.zk_line.specs.Objects.{is_at, is_met, object_of};
 ghost use Rattle.zk_trace.specs.Fields.{object_named, item_of, queue_of, target_of, thread_of, chan_of, observer_of, checked_of};
 
+use crate::matching::is_same;
 use crate::names::{checked_name, target_name};
 use zk_line::kind_of;
 use zk_model_bus::Need;
@@ -32,7 +33,7 @@ pub fn queue_of(scenario: &Scenario, word: &[u8]) -> Option<u32>
 pub fn target_of(scenario: &Scenario, word: &[u8]) -> Option<Option<u32>>
     ensures { result ≡ target_of scenario.now.decls word.now }
 {
-    if word == target_name(scenario, None) {
+    if is_same(word, target_name(scenario, None)) {
         return Some(None);
     }
     Some(Some(queue_of(scenario, word)?))
@@ -63,7 +64,7 @@ pub fn observer_of(scenario: &Scenario, word: &[u8]) -> Option<u32>
 pub fn checked_of(scenario: &Scenario, word: &[u8]) -> Option<Option<u32>>
     ensures { result ≡ checked_of scenario.now.decls word.now }
 {
-    if word == checked_name(scenario, None) {
+    if is_same(word, checked_name(scenario, None)) {
         return Some(None);
     }
     Some(Some(scenario.find(word)?))

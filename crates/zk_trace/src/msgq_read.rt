@@ -5,6 +5,7 @@ ghost use Rattle.zk_trace.specs.MsgqRead.{verb_of, op_behind, op_of, bytes_reply
 ghost use Rattle.zk_trace.specs.Static.{static_row};
 
 use crate::choosing::first_of;
+use crate::matching::is_same;
 use crate::messages::message_of;
 use crate::msgq::{Verb, reply_parts, verb_word};
 use crate::numerals::{narrow_of, wide_of};
@@ -45,7 +46,10 @@ pub fn op_of(scenario: &Scenario, words: Words<'_>) -> Option<MsgqOp>
 fn verb_of(word: &[u8]) -> Option<Verb>
     ensures { result ≡ verb_of word.now }
 {
-    VERBS.iter().copied().find(|verb| word == verb_word(*verb))
+    VERBS
+        .iter()
+        .copied()
+        .find(|verb| is_same(word, verb_word(*verb)))
 }
 
 fn op_behind(scenario: &Scenario, verb: Verb, words: Words<'_>) -> Option<MsgqOp>
@@ -109,8 +113,9 @@ fn number_reply(row: &[u8]) -> Option<MsgqReply>
     Some(MsgqReply::Number(narrow_of(row)?))
 }
 
+#[inline(always)]
 fn is_written(reply: MsgqReply, row: &[u8]) -> bool
     ensures { result ≡ bytes_eq row.now (static_row (reply_parts reply)) }
 {
-    row == static_row(&reply_parts(&reply))
+    is_same(row, static_row(&reply_parts(&reply)))
 }

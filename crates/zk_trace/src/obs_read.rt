@@ -6,6 +6,7 @@ ghost use Rattle.zk_trace.specs.Static.{static_row};
 
 use crate::choosing::first_of;
 use crate::look_ups::chan_of;
+use crate::matching::is_same;
 use crate::numerals::wide_of;
 use crate::obs::{Verb, reply_parts, verb_word};
 use crate::parts::static_row;
@@ -36,7 +37,10 @@ pub fn op_of(scenario: &Scenario, words: Words<'_>) -> Option<ObsOp>
 fn verb_of(word: &[u8]) -> Option<Verb>
     ensures { result ≡ verb_of word.now }
 {
-    VERBS.iter().copied().find(|verb| word == verb_word(*verb))
+    VERBS
+        .iter()
+        .copied()
+        .find(|verb| is_same(word, verb_word(*verb)))
 }
 
 fn op_behind(scenario: &Scenario, verb: Verb, words: Words<'_>) -> Option<ObsOp>
@@ -74,8 +78,9 @@ fn channel_reply(scenario: &Scenario, row: &[u8]) -> Option<ObsReply>
     Some(ObsReply::Channel(chan_of(scenario, row)?))
 }
 
+#[inline(always)]
 fn is_written(reply: ObsReply, row: &[u8]) -> bool
     ensures { result ≡ bytes_eq row.now (static_row (reply_parts reply)) }
 {
-    row == static_row(&reply_parts(reply))
+    is_same(row, static_row(&reply_parts(reply)))
 }

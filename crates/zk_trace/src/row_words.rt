@@ -3,6 +3,7 @@ ghost use Rattle.zk_base.specs.Limits.{most_few};
 ghost use Rattle.zk_trace.specs.Fields.{bare, one_word, two_words, three_words, behind, oops_of, observers_of, ready_of, observer_of, position_of, each_of, up_to};
 
 use crate::look_ups::observer_of;
+use crate::matching::is_same;
 use crate::names::NO_NAME;
 use crate::numerals::position_of;
 use crate::set_words::why_of;
@@ -78,7 +79,7 @@ pub fn behind<'a, const SEPARATOR: u8>(
     ensures { result ≡ behind first.now words.entry }
 {
     let mut words = words;
-    if words.next()? == first {
+    if is_same(words.next()?, first) {
         Some(words)
     } else {
         None
@@ -96,7 +97,7 @@ pub fn oops_of(row: &[u8]) -> Option<OopsWhy>
 pub fn observers_of(scenario: &Scenario, row: &[u8]) -> Option<Few>
     ensures { result ≡ observers_of scenario.now.decls row.now }
 {
-    if row == NO_NAME {
+    if is_same(row, NO_NAME) {
         return Some(Few::none());
     }
     told_of(scenario, Words::of(row))

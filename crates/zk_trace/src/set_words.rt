@@ -1,6 +1,7 @@
 ghost use Rattle.std.specs.Prelude.{◌≡◌};
 ghost use Rattle.zk_trace.specs.Fields.{errno_of, need_of, why_of, truth_of, waits_of, plug_of, state_of};
 
+use crate::matching::is_same;
 use crate::words::{errno_word, need_word, truth_word, wait_word, why_word};
 use zk_base::Errno;
 use zk_model_bus::{Need, OopsWhy};
@@ -49,21 +50,26 @@ pub fn errno_of(word: &[u8]) -> Option<Errno>
     ERRNOS
         .iter()
         .copied()
-        .find(|errno| word == errno_word(*errno))
+        .find(|errno| is_same(word, errno_word(*errno)))
 }
 
 /// A need.
 pub fn need_of(word: &[u8]) -> Option<Need>
     ensures { result ≡ need_of word.now }
 {
-    NEEDS.iter().copied().find(|need| word == need_word(*need))
+    NEEDS
+        .iter()
+        .copied()
+        .find(|need| is_same(word, need_word(*need)))
 }
 
 /// Why a check fails.
 pub fn why_of(word: &[u8]) -> Option<OopsWhy>
     ensures { result ≡ why_of word.now }
 {
-    WHYS.iter().copied().find(|why| word == why_word(*why))
+    WHYS.iter()
+        .copied()
+        .find(|why| is_same(word, why_word(*why)))
 }
 
 /// A truth value.
@@ -72,14 +78,16 @@ pub fn truth_of(word: &[u8]) -> Option<bool>
 {
     BOTH.iter()
         .copied()
-        .find(|truth| word == truth_word(*truth))
+        .find(|truth| is_same(word, truth_word(*truth)))
 }
 
 /// Whether a call waits.
 pub fn waits_of(word: &[u8]) -> Option<bool>
     ensures { result ≡ waits_of word.now }
 {
-    BOTH.iter().copied().find(|waits| word == wait_word(*waits))
+    BOTH.iter()
+        .copied()
+        .find(|waits| is_same(word, wait_word(*waits)))
 }
 
 /// Whether a drain plugs its queue.
@@ -88,7 +96,7 @@ pub fn plug_of(word: &[u8]) -> Option<bool>
 {
     BOTH.iter()
         .copied()
-        .find(|plug| word == choice_text(Choice::Drain, *plug))
+        .find(|plug| is_same(word, choice_text(Choice::Drain, *plug)))
 }
 
 /// Whether something is on.
@@ -97,5 +105,5 @@ pub fn state_of(word: &[u8]) -> Option<bool>
 {
     BOTH.iter()
         .copied()
-        .find(|on| word == choice_text(Choice::State, *on))
+        .find(|on| is_same(word, choice_text(Choice::State, *on)))
 }

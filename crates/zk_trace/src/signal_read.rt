@@ -1,6 +1,7 @@
 ghost use Rattle.std.specs.Prelude.{◌≡◌};
 ghost use Rattle.zk_trace.specs.SignalRead.{verb_of, op_behind, op_of, reply_of};
 
+use crate::matching::is_same;
 use crate::numerals::{narrow_of, short_of};
 use crate::row_words::{bare, one_word};
 use crate::signal::{Verb, verb_word};
@@ -23,7 +24,10 @@ pub fn op_of(scenario: &Scenario, words: Words<'_>) -> Option<SignalOp>
 fn verb_of(word: &[u8]) -> Option<Verb>
     ensures { result ≡ verb_of word.now }
 {
-    VERBS.iter().copied().find(|verb| word == verb_word(*verb))
+    VERBS
+        .iter()
+        .copied()
+        .find(|verb| is_same(word, verb_word(*verb)))
 }
 
 fn op_behind(scenario: &Scenario, verb: Verb, words: Words<'_>) -> Option<SignalOp>

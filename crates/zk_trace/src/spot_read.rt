@@ -7,6 +7,7 @@ ghost use Rattle.zk_trace.specs.SpotRead.{player_at, player_of, step_of, spot_of
 use crate::halves::halves;
 use crate::hints::Hints;
 use crate::lined::POINT;
+use crate::matching::is_same;
 use crate::names::player_name;
 use crate::numerals::narrow_of;
 use zk_base::Who;
@@ -28,7 +29,7 @@ pub fn player_of(scenario: &Scenario, hints: &Hints, name: &[u8]) -> Option<u32>
 fn is_named(scenario: &Scenario, player: u32, name: &[u8]) -> bool
     ensures { IsTrue result ↔ (player < length (players scenario.now.decls)) × (name.now ≡ player_name scenario.now.decls player) }
 {
-    player < scenario.players() && name == player_name(scenario, player as usize)
+    player < scenario.players() && is_same(name, player_name(scenario, player as usize))
 }
 
 fn player_at(scenario: &Scenario, object: u32) -> Option<u32>

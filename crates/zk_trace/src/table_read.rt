@@ -6,6 +6,7 @@ ghost use Rattle.zk_trace.specs.TableRead.{verb_of, op_behind, op_of, oops_reply
 
 use crate::choosing::first_of;
 use crate::look_ups::{checked_of, object_of, thread_of};
+use crate::matching::is_same;
 use crate::parts::static_row;
 use crate::row_words::{bare, one_word, oops_of, two_words};
 use crate::set_words::need_of;
@@ -37,7 +38,10 @@ pub fn op_of(scenario: &Scenario, words: Words<'_>) -> Option<TableOp>
 fn verb_of(word: &[u8]) -> Option<Verb>
     ensures { result ≡ verb_of word.now }
 {
-    VERBS.iter().copied().find(|verb| word == verb_word(*verb))
+    VERBS
+        .iter()
+        .copied()
+        .find(|verb| is_same(word, verb_word(*verb)))
 }
 
 fn op_behind(scenario: &Scenario, verb: Verb, words: Words<'_>) -> Option<TableOp>
@@ -80,8 +84,9 @@ fn oops_reply(row: &[u8]) -> Option<TableReply>
     Some(TableReply::Oops(oops_of(row)?))
 }
 
+#[inline(always)]
 fn is_written(reply: TableReply, row: &[u8]) -> bool
     ensures { result ≡ bytes_eq row.now (static_row (reply_parts reply)) }
 {
-    row == static_row(&reply_parts(reply))
+    is_same(row, static_row(&reply_parts(reply)))
 }

@@ -11,6 +11,7 @@ use crate::choosing::first_of;
 use crate::expiries::{admitted_of, expiries_of};
 use crate::flags::flags_of;
 use crate::look_ups::{item_of, queue_of, target_of};
+use crate::matching::is_same;
 use crate::numerals::{admission_of, narrow_of, wide_of};
 use crate::parts::{FixedWord, fixed_word, static_row};
 use crate::row_words::{behind, one_word, three_words, two_words};
@@ -54,7 +55,10 @@ pub fn op_of(scenario: &Scenario, words: Words<'_>) -> Option<WorkOp>
 fn verb_of(word: &[u8]) -> Option<Verb>
     ensures { result ≡ verb_of word.now }
 {
-    VERBS.iter().copied().find(|verb| word == verb_word(*verb))
+    VERBS
+        .iter()
+        .copied()
+        .find(|verb| is_same(word, verb_word(*verb)))
 }
 
 fn op_behind(scenario: &Scenario, verb: Verb, words: Words<'_>) -> Option<WorkOp>
@@ -277,8 +281,9 @@ fn end_reply(scenario: &Scenario, row: &[u8]) -> Option<WorkReply>
     first_of!(is_written, row; WorkReply::Done)
 }
 
+#[inline(always)]
 fn is_written(reply: WorkReply, row: &[u8]) -> bool
     ensures { result ≡ bytes_eq row.now (static_row (reply_parts reply)) }
 {
-    row == static_row(&reply_parts(&reply))
+    is_same(row, static_row(&reply_parts(&reply)))
 }
