@@ -72,16 +72,21 @@ fn unasked_from(n: usize, events: &[Event], marks: &[Mark]) -> Option<usize>
     requires { n + length events.now ≤ MOST_EVENTS }
     ensures { result ≡ unasked_from n events.now marks.now }
 {
-    let [event, events @ ..] = events else {
-        return None;
-    };
-    let [mark, marks @ ..] = marks else {
-        return None;
-    };
-    if is_to_ask(*event, *mark) {
-        return Some(n);
+    let (mut n, mut events, mut marks) = (n, events, marks);
+    loop {
+        let [event, later @ ..] = events else {
+            return None;
+        };
+        let [mark, rest @ ..] = marks else {
+            return None;
+        };
+        if is_to_ask(*event, *mark) {
+            return Some(n);
+        }
+        n += 1;
+        events = later;
+        marks = rest;
     }
-    unasked_from(n + 1, events, marks)
 }
 
 fn asks_more(events: &[Event], marks: &[Mark]) -> bool
