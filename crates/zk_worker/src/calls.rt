@@ -97,77 +97,77 @@ fn reschedule(scenario: &Scenario, item: Ref, queue: Ref, delay: u32) -> WorkOp
 /// A call of the work service that makes one step, about an item or a queue by its number there.
 // What gives an attempt stands out of line, here and below: a call takes one of these ways, and each has large locals.
 #[inline(never)]
-fn at_work(op: WorkOp, stage: &Stage, index: u32) -> Option<Step>
-    ensures { result ≡ slice_get (plan_attempts (Plan.One (Step.Work op)) stage.now) index }
+fn at_work(op: WorkOp, stage: &Stage, index: u32, ahead: &mut Option<Step>)
+    ensures { ahead.new ≡ slice_get (plan_attempts (Plan.One (Step.Work op)) stage.now) index }
 {
-    one(&Step::Work(op), stage, index)
+    *ahead = one(&Step::Work(op), stage, index);
 }
 
 /// A call of the work service that may wait.
 #[inline(never)]
-fn work_wait(opening: WorkOp, closing: Closing, stage: &Stage, index: u32) -> Option<Step>
-    ensures { result ≡ slice_get (plan_attempts (Plan.Pair (Step.Work opening) closing) stage.now) index }
+fn work_wait(opening: WorkOp, closing: Closing, stage: &Stage, index: u32, ahead: &mut Option<Step>)
+    ensures { ahead.new ≡ slice_get (plan_attempts (Plan.Pair (Step.Work opening) closing) stage.now) index }
 {
-    pair(&Step::Work(opening), closing, stage, index)
+    *ahead = pair(&Step::Work(opening), closing, stage, index);
 }
 
 /// Both services that have a time go on by so many ticks.
 #[inline(never)]
-fn tick(ticks: u32, stage: &Stage, index: u32) -> Option<Step>
-    ensures { result ≡ slice_get (plan_attempts (Plan.Twice
+fn tick(ticks: u32, stage: &Stage, index: u32, ahead: &mut Option<Step>)
+    ensures { ahead.new ≡ slice_get (plan_attempts (Plan.Twice
         (Step.Work (WorkOp.Announce ticks)) (Step.Clock (ClockOp.Announce ticks))) stage.now) index }
 {
     let first = Step::Work(WorkOp::Announce(ticks));
     let second = Step::Clock(ClockOp::Announce(ticks));
-    twice(&first, &second, stage, index)
+    *ahead = twice(&first, &second, stage, index);
 }
 
 /// A call that makes one step at a semaphore.
 #[inline(never)]
-fn at_sem(sem: Ref, op: SemOp, stage: &Stage, index: u32) -> Option<Step>
-    ensures { result ≡ slice_get (plan_attempts (Plan.One (Step.Sem (ref_object sem) op)) stage.now) index }
+fn at_sem(sem: Ref, op: SemOp, stage: &Stage, index: u32, ahead: &mut Option<Step>)
+    ensures { ahead.new ≡ slice_get (plan_attempts (Plan.One (Step.Sem (ref_object sem) op)) stage.now) index }
 {
-    one(&Step::Sem(ref_object(sem), op), stage, index)
+    *ahead = one(&Step::Sem(ref_object(sem), op), stage, index);
 }
 
 /// A call that makes one step at a message queue.
 #[inline(never)]
-fn at_msgq(queue: Ref, op: MsgqOp, stage: &Stage, index: u32) -> Option<Step>
-    ensures { result ≡ slice_get (plan_attempts (Plan.One (Step.Msgq (ref_object queue) op)) stage.now) index }
+fn at_msgq(queue: Ref, op: MsgqOp, stage: &Stage, index: u32, ahead: &mut Option<Step>)
+    ensures { ahead.new ≡ slice_get (plan_attempts (Plan.One (Step.Msgq (ref_object queue) op)) stage.now) index }
 {
-    one(&Step::Msgq(ref_object(queue), op), stage, index)
+    *ahead = one(&Step::Msgq(ref_object(queue), op), stage, index);
 }
 
 /// A call that writes to a signal.
 #[inline(never)]
-fn at_signal(signal: Ref, op: SignalOp, stage: &Stage, index: u32) -> Option<Step>
-    ensures { result ≡ slice_get (plan_attempts (Plan.One (Step.Signal (ref_object signal) op)) stage.now) index }
+fn at_signal(signal: Ref, op: SignalOp, stage: &Stage, index: u32, ahead: &mut Option<Step>)
+    ensures { ahead.new ≡ slice_get (plan_attempts (Plan.One (Step.Signal (ref_object signal) op)) stage.now) index }
 {
-    one(&Step::Signal(ref_object(signal), op), stage, index)
+    *ahead = one(&Step::Signal(ref_object(signal), op), stage, index);
 }
 
 /// A call that makes one step at a channel.
 #[inline(never)]
-fn at_chan(chan: Ref, op: ChanOp, stage: &Stage, index: u32) -> Option<Step>
-    ensures { result ≡ slice_get (plan_attempts (Plan.One (Step.Chan (ref_object chan) op)) stage.now) index }
+fn at_chan(chan: Ref, op: ChanOp, stage: &Stage, index: u32, ahead: &mut Option<Step>)
+    ensures { ahead.new ≡ slice_get (plan_attempts (Plan.One (Step.Chan (ref_object chan) op)) stage.now) index }
 {
-    one(&Step::Chan(ref_object(chan), op), stage, index)
+    *ahead = one(&Step::Chan(ref_object(chan), op), stage, index);
 }
 
 /// A call that makes one step at an observer.
 #[inline(never)]
-fn at_observer(observer: Ref, op: ObsOp, stage: &Stage, index: u32) -> Option<Step>
-    ensures { result ≡ slice_get (plan_attempts (Plan.One (Step.Obs (ref_object observer) op)) stage.now) index }
+fn at_observer(observer: Ref, op: ObsOp, stage: &Stage, index: u32, ahead: &mut Option<Step>)
+    ensures { ahead.new ≡ slice_get (plan_attempts (Plan.One (Step.Obs (ref_object observer) op)) stage.now) index }
 {
-    one(&Step::Obs(ref_object(observer), op), stage, index)
+    *ahead = one(&Step::Obs(ref_object(observer), op), stage, index);
 }
 
 /// A call that makes one step at the object table.
 #[inline(never)]
-fn at_table(op: TableOp, stage: &Stage, index: u32) -> Option<Step>
-    ensures { result ≡ slice_get (plan_attempts (Plan.One (Step.Table op)) stage.now) index }
+fn at_table(op: TableOp, stage: &Stage, index: u32, ahead: &mut Option<Step>)
+    ensures { ahead.new ≡ slice_get (plan_attempts (Plan.One (Step.Table op)) stage.now) index }
 {
-    one(&Step::Table(op), stage, index)
+    *ahead = one(&Step::Table(op), stage, index);
 }
 
 fn grant(thread: Ref, object: Ref) -> TableOp
@@ -184,55 +184,79 @@ fn revoke(thread: Ref, object: Ref) -> TableOp
 
 /// A look at the busy flags of an item.
 #[inline(never)]
-fn look_item(item: Ref, stage: &Stage, index: u32) -> Option<Step>
-    ensures { result ≡ slice_get (plan_attempts (Plan.One (Step.LookItem (ref_object item))) stage.now) index }
+fn look_item(item: Ref, stage: &Stage, index: u32, ahead: &mut Option<Step>)
+    ensures { ahead.new ≡ slice_get (plan_attempts (Plan.One (Step.LookItem (ref_object item))) stage.now) index }
 {
-    one(&Step::LookItem(ref_object(item)), stage, index)
+    *ahead = one(&Step::LookItem(ref_object(item)), stage, index);
 }
 
 /// A look at a signal, raised or not.
 #[inline(never)]
-fn look_signal(signal: Ref, stage: &Stage, index: u32) -> Option<Step>
-    ensures { result ≡ slice_get
+fn look_signal(signal: Ref, stage: &Stage, index: u32, ahead: &mut Option<Step>)
+    ensures { ahead.new ≡ slice_get
         (plan_attempts (Plan.One (Step.LookSignal (ref_object signal) false)) stage.now) index }
 {
-    one(&Step::LookSignal(ref_object(signal), false), stage, index)
+    *ahead = one(&Step::LookSignal(ref_object(signal), false), stage, index);
 }
 
 /// A call that takes a semaphore.
 #[inline(never)]
-fn take(sem: Ref, timeout: Timeout, stage: &Stage, index: u32) -> Option<Step>
-    ensures { result ≡ slice_get
+fn take(sem: Ref, timeout: Timeout, stage: &Stage, index: u32, ahead: &mut Option<Step>)
+    ensures { ahead.new ≡ slice_get
         (plan_attempts (Plan.Wait (Waiting.Take (ref_object sem)) timeout) stage.now) index }
 {
-    wait_ahead(&Waiting::Take(ref_object(sem)), timeout, stage, index)
+    wait_ahead(
+        &Waiting::Take(ref_object(sem)),
+        timeout,
+        stage,
+        index,
+        ahead,
+    );
 }
 
 /// A call that gets a message.
 #[inline(never)]
-fn get(queue: Ref, timeout: Timeout, stage: &Stage, index: u32) -> Option<Step>
-    ensures { result ≡ slice_get
+fn get(queue: Ref, timeout: Timeout, stage: &Stage, index: u32, ahead: &mut Option<Step>)
+    ensures { ahead.new ≡ slice_get
         (plan_attempts (Plan.Wait (Waiting.Get (ref_object queue)) timeout) stage.now) index }
 {
-    wait_ahead(&Waiting::Get(ref_object(queue)), timeout, stage, index)
+    wait_ahead(
+        &Waiting::Get(ref_object(queue)),
+        timeout,
+        stage,
+        index,
+        ahead,
+    );
 }
 
 /// A call that claims a channel.
 #[inline(never)]
-fn claim(chan: Ref, timeout: Timeout, stage: &Stage, index: u32) -> Option<Step>
-    ensures { result ≡ slice_get
+fn claim(chan: Ref, timeout: Timeout, stage: &Stage, index: u32, ahead: &mut Option<Step>)
+    ensures { ahead.new ≡ slice_get
         (plan_attempts (Plan.Wait (Waiting.Claim (ref_object chan)) timeout) stage.now) index }
 {
-    wait_ahead(&Waiting::Claim(ref_object(chan)), timeout, stage, index)
+    wait_ahead(
+        &Waiting::Claim(ref_object(chan)),
+        timeout,
+        stage,
+        index,
+        ahead,
+    );
 }
 
 /// A call that waits for a subscriber's next channel.
 #[inline(never)]
-fn wait_at_sub(sub: Ref, timeout: Timeout, stage: &Stage, index: u32) -> Option<Step>
-    ensures { result ≡ slice_get
+fn wait_at_sub(sub: Ref, timeout: Timeout, stage: &Stage, index: u32, ahead: &mut Option<Step>)
+    ensures { ahead.new ≡ slice_get
         (plan_attempts (Plan.Wait (Waiting.SubWait (ref_object sub)) timeout) stage.now) index }
 {
-    wait_ahead(&Waiting::SubWait(ref_object(sub)), timeout, stage, index)
+    wait_ahead(
+        &Waiting::SubWait(ref_object(sub)),
+        timeout,
+        stage,
+        index,
+        ahead,
+    );
 }
 
 /// A call that puts a message.
@@ -243,8 +267,9 @@ fn put_message(
     timeout: Timeout,
     stage: &Stage,
     index: u32,
-) -> Option<Step>
-    ensures { result ≡ slice_get
+    ahead: &mut Option<Step>,
+)
+    ensures { ahead.new ≡ slice_get
         (plan_attempts (Plan.Wait (Waiting.Put (ref_object queue) message.now) timeout) stage.now) index }
 {
     wait_ahead(
@@ -252,13 +277,21 @@ fn put_message(
         timeout,
         stage,
         index,
-    )
+        ahead,
+    );
 }
 
 /// A call that publishes a message.
 #[inline(never)]
-fn publish(chan: Ref, message: &Msg, timeout: Timeout, stage: &Stage, index: u32) -> Option<Step>
-    ensures { result ≡ slice_get
+fn publish(
+    chan: Ref,
+    message: &Msg,
+    timeout: Timeout,
+    stage: &Stage,
+    index: u32,
+    ahead: &mut Option<Step>,
+)
+    ensures { ahead.new ≡ slice_get
         (plan_attempts (Plan.Channel (ref_object chan) (Using.Publish message.now) timeout) stage.now) index }
 {
     channel_ahead(
@@ -267,106 +300,163 @@ fn publish(chan: Ref, message: &Msg, timeout: Timeout, stage: &Stage, index: u32
         timeout,
         stage,
         index,
-    )
+        ahead,
+    );
 }
 
 /// A call that notifies the observers of a channel.
 #[inline(never)]
-fn notify(chan: Ref, timeout: Timeout, stage: &Stage, index: u32) -> Option<Step>
-    ensures { result ≡ slice_get
+fn notify(chan: Ref, timeout: Timeout, stage: &Stage, index: u32, ahead: &mut Option<Step>)
+    ensures { ahead.new ≡ slice_get
         (plan_attempts (Plan.Channel (ref_object chan) Using.Notify timeout) stage.now) index }
 {
-    channel_ahead(ref_object(chan), &Using::Notify, timeout, stage, index)
+    channel_ahead(
+        ref_object(chan),
+        &Using::Notify,
+        timeout,
+        stage,
+        index,
+        ahead,
+    );
 }
 
 /// A call that reads the message of a channel.
 #[inline(never)]
-fn read(chan: Ref, timeout: Timeout, stage: &Stage, index: u32) -> Option<Step>
-    ensures { result ≡ slice_get
+fn read(chan: Ref, timeout: Timeout, stage: &Stage, index: u32, ahead: &mut Option<Step>)
+    ensures { ahead.new ≡ slice_get
         (plan_attempts (Plan.Channel (ref_object chan) Using.Read timeout) stage.now) index }
 {
-    channel_ahead(ref_object(chan), &Using::Read, timeout, stage, index)
+    channel_ahead(ref_object(chan), &Using::Read, timeout, stage, index, ahead);
 }
 
-/// The attempt of this index among the next attempts of a call.
+/// Puts the attempt of this index among the next attempts of a call.
 // No plan is made of the call, since that would be moved about, and is large.
-pub fn call_ahead(scenario: &Scenario, call: &Call, stage: &Stage, index: u32) -> Option<Step>
-    ensures { result ≡ slice_get (plan_attempts (plan_of scenario.now.decls call.now) stage.now) index }
+pub fn call_ahead(
+    scenario: &Scenario,
+    call: &Call,
+    stage: &Stage,
+    index: u32,
+    ahead: &mut Option<Step>,
+)
+    ensures { ahead.new ≡ slice_get (plan_attempts (plan_of scenario.now.decls call.now) stage.now) index }
 {
     match call {
-        Call::Submit(item, queue) => at_work(submit(scenario, *item, *queue), stage, index),
-        Call::Cancel(item) => at_work(WorkOp::Cancel(ref_number(scenario, *item)), stage, index),
+        Call::Submit(item, queue) => at_work(submit(scenario, *item, *queue), stage, index, ahead),
+        Call::Cancel(item) => at_work(
+            WorkOp::Cancel(ref_number(scenario, *item)),
+            stage,
+            index,
+            ahead,
+        ),
         Call::CancelSync(item) => work_wait(
             WorkOp::CancelStart(ref_number(scenario, *item)),
             Closing::Cancel,
             stage,
             index,
+            ahead,
         ),
         Call::Flush(item) => work_wait(
             WorkOp::FlushStart(ref_number(scenario, *item)),
             Closing::Flush,
             stage,
             index,
+            ahead,
         ),
         Call::Schedule(item, queue, delay) => at_work(
             schedule(scenario, *item, *queue, *delay),
             stage,
             index,
+            ahead,
         ),
         Call::Reschedule(item, queue, delay) => at_work(
             reschedule(scenario, *item, *queue, *delay),
             stage,
             index,
+            ahead,
         ),
         Call::Remaining(item) => at_work(
             WorkOp::Remaining(ref_number(scenario, *item)),
             stage,
             index,
+            ahead,
         ),
-        Call::Busy(item) => look_item(*item, stage, index),
-        Call::Start(queue) => at_work(WorkOp::Start(ref_number(scenario, *queue)), stage, index),
+        Call::Busy(item) => look_item(*item, stage, index, ahead),
+        Call::Start(queue) => at_work(
+            WorkOp::Start(ref_number(scenario, *queue)),
+            stage,
+            index,
+            ahead,
+        ),
         Call::Drain(queue, plug) => work_wait(
             WorkOp::DrainStart(ref_number(scenario, *queue), *plug),
             Closing::Drain,
             stage,
             index,
+            ahead,
         ),
-        Call::Unplug(queue) => at_work(WorkOp::Unplug(ref_number(scenario, *queue)), stage, index),
-        Call::Tick(ticks) => tick(*ticks, stage, index),
-        Call::Take(sem, timeout) => take(*sem, *timeout, stage, index),
-        Call::Give(sem) => at_sem(*sem, SemOp::Give, stage, index),
-        Call::Reset(sem) => at_sem(*sem, SemOp::Reset, stage, index),
-        Call::Count(sem) => at_sem(*sem, SemOp::Count, stage, index),
-        Call::Put(queue, message, timeout) => put_message(*queue, message, *timeout, stage, index),
-        Call::Get(queue, timeout) => get(*queue, *timeout, stage, index),
-        Call::Peek(queue) => at_msgq(*queue, MsgqOp::Peek, stage, index),
-        Call::PeekAt(queue, place) => at_msgq(*queue, MsgqOp::PeekAt(*place), stage, index),
-        Call::Purge(queue) => at_msgq(*queue, MsgqOp::Purge, stage, index),
-        Call::Used(queue) => at_msgq(*queue, MsgqOp::Used, stage, index),
-        Call::Free(queue) => at_msgq(*queue, MsgqOp::Free, stage, index),
-        Call::Raise(signal, value) => at_signal(*signal, SignalOp::Raise(*value), stage, index),
-        Call::Clear(signal) => at_signal(*signal, SignalOp::Clear, stage, index),
-        Call::Check(signal) => look_signal(*signal, stage, index),
-        Call::Poll(timeout, events) => poll_ahead(*timeout, events, stage, index),
-        Call::Claim(chan, timeout) => claim(*chan, *timeout, stage, index),
-        Call::Finish(chan) => at_chan(*chan, ChanOp::Finish, stage, index),
+        Call::Unplug(queue) => at_work(
+            WorkOp::Unplug(ref_number(scenario, *queue)),
+            stage,
+            index,
+            ahead,
+        ),
+        Call::Tick(ticks) => tick(*ticks, stage, index, ahead),
+        Call::Take(sem, timeout) => take(*sem, *timeout, stage, index, ahead),
+        Call::Give(sem) => at_sem(*sem, SemOp::Give, stage, index, ahead),
+        Call::Reset(sem) => at_sem(*sem, SemOp::Reset, stage, index, ahead),
+        Call::Count(sem) => at_sem(*sem, SemOp::Count, stage, index, ahead),
+        Call::Put(queue, message, timeout) => put_message(
+            *queue, message, *timeout, stage, index, ahead,
+        ),
+        Call::Get(queue, timeout) => get(*queue, *timeout, stage, index, ahead),
+        Call::Peek(queue) => at_msgq(*queue, MsgqOp::Peek, stage, index, ahead),
+        Call::PeekAt(queue, place) => at_msgq(*queue, MsgqOp::PeekAt(*place), stage, index, ahead),
+        Call::Purge(queue) => at_msgq(*queue, MsgqOp::Purge, stage, index, ahead),
+        Call::Used(queue) => at_msgq(*queue, MsgqOp::Used, stage, index, ahead),
+        Call::Free(queue) => at_msgq(*queue, MsgqOp::Free, stage, index, ahead),
+        Call::Raise(signal, value) => at_signal(
+            *signal,
+            SignalOp::Raise(*value),
+            stage,
+            index,
+            ahead,
+        ),
+        Call::Clear(signal) => at_signal(*signal, SignalOp::Clear, stage, index, ahead),
+        Call::Check(signal) => look_signal(*signal, stage, index, ahead),
+        Call::Poll(timeout, events) => poll_ahead(*timeout, events, stage, index, ahead),
+        Call::Claim(chan, timeout) => claim(*chan, *timeout, stage, index, ahead),
+        Call::Finish(chan) => at_chan(*chan, ChanOp::Finish, stage, index, ahead),
         Call::Mask(chan, observer, on) => at_chan(
             *chan,
             ChanOp::Mask(ref_object(*observer), *on),
             stage,
             index,
+            ahead,
         ),
-        Call::Enable(observer, on) => at_observer(*observer, ObsOp::Enable(*on), stage, index),
-        Call::SubWait(sub, timeout) => wait_at_sub(*sub, *timeout, stage, index),
-        Call::Publish(chan, message, timeout) => publish(*chan, message, *timeout, stage, index),
-        Call::Notify(chan, timeout) => notify(*chan, *timeout, stage, index),
-        Call::Read(chan, timeout) => read(*chan, *timeout, stage, index),
-        Call::Grant(thread, object) => at_table(grant(*thread, *object), stage, index),
-        Call::Release(object) => at_table(TableOp::Release(ref_object(*object)), stage, index),
-        Call::Revoke(thread, object) => at_table(revoke(*thread, *object), stage, index),
-        Call::Public(object) => at_table(TableOp::Public(ref_object(*object)), stage, index),
-        Call::Init(object) => at_table(TableOp::Init(ref_object(*object)), stage, index),
-        Call::User => at_table(TableOp::EnterUser, stage, index),
+        Call::Enable(observer, on) => at_observer(
+            *observer,
+            ObsOp::Enable(*on),
+            stage,
+            index,
+            ahead,
+        ),
+        Call::SubWait(sub, timeout) => wait_at_sub(*sub, *timeout, stage, index, ahead),
+        Call::Publish(chan, message, timeout) => publish(
+            *chan, message, *timeout, stage, index, ahead,
+        ),
+        Call::Notify(chan, timeout) => notify(*chan, *timeout, stage, index, ahead),
+        Call::Read(chan, timeout) => read(*chan, *timeout, stage, index, ahead),
+        Call::Grant(thread, object) => at_table(grant(*thread, *object), stage, index, ahead),
+        Call::Release(object) => at_table(
+            TableOp::Release(ref_object(*object)),
+            stage,
+            index,
+            ahead,
+        ),
+        Call::Revoke(thread, object) => at_table(revoke(*thread, *object), stage, index, ahead),
+        Call::Public(object) => at_table(TableOp::Public(ref_object(*object)), stage, index, ahead),
+        Call::Init(object) => at_table(TableOp::Init(ref_object(*object)), stage, index, ahead),
+        Call::User => at_table(TableOp::EnterUser, stage, index, ahead),
     }
 }
 

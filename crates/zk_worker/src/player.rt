@@ -170,13 +170,23 @@ impl Player {
     pub fn ahead(&self, scenario: &Scenario, index: u32) -> Option<Step>
         ensures { result ≡ slice_get (attempts scenario.now self.now) index }
     {
+        let mut ahead = None;
+        self.put_ahead(scenario, index, &mut ahead);
+        ahead
+    }
+
+    /// Puts the attempt of this index, as `ahead` hands it out.
+    pub fn put_ahead(&self, scenario: &Scenario, index: u32, ahead: &mut Option<Step>)
+        ensures { ahead.new ≡ slice_get (attempts scenario.now self.now) index }
+    {
         if self.is_spent(scenario) {
-            return None;
+            *ahead = None;
+            return;
         }
         match self.next_check(scenario) {
-            Some(check) if index == 0 => Some(check_step(&check)),
-            Some(_) => None,
-            None => frames_ahead(scenario, &self.stack, index),
+            Some(check) if index == 0 => *ahead = Some(check_step(&check)),
+            Some(_) => *ahead = None,
+            None => frames_ahead(scenario, &self.stack, index, ahead),
         }
     }
 

@@ -54,11 +54,13 @@ fn try_ahead<V: Services>(
     ensures home { V.home services.new ≡ V.home services.old }
 {
     for index in 0..MOST_ATTEMPTS {
-        let Some(step) = player.ahead(scenario, index) else {
+        let mut ahead = None;
+        player.put_ahead(scenario, index, &mut ahead);
+        let Some(step) = &ahead else {
             return Ok(());
         };
-        if let Some(reply) = services.attempt(player.who(), player.steps(), &step)? {
-            *made = Some((step, reply));
+        if let Some(reply) = services.attempt(player.who(), player.steps(), step)? {
+            *made = Some((*step, reply));
             return Ok(());
         }
     }

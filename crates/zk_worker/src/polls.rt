@@ -247,19 +247,25 @@ fn start_ahead(timeout: Timeout, events: &[Event], index: u32) -> Option<Step>
     }
 }
 
-/// The attempt of this index among the next attempts of a poll.
+/// Puts the attempt of this index among the next attempts of a poll.
 #[tactic(auto, using(crate::proofs::PollSteps::few_events))]
 // Out of line, since its locals are large, and few calls poll.
 #[inline(never)]
-pub fn poll_ahead(timeout: Timeout, events: &Events, stage: &Stage, index: u32) -> Option<Step>
-    ensures { result ≡ slice_get (poll_attempts timeout events.now stage.now) index }
+pub fn poll_ahead(
+    timeout: Timeout,
+    events: &Events,
+    stage: &Stage,
+    index: u32,
+    ahead: &mut Option<Step>,
+)
+    ensures { ahead.new ≡ slice_get (poll_attempts timeout events.now stage.now) index }
 {
     let events = events.items();
-    match stage {
+    *ahead = match stage {
         Stage::Start => start_ahead(timeout, events, index),
         Stage::Polls(alarm, marks) => polling_ahead(timeout, events, *alarm, marks, index),
         _ => None,
-    }
+    };
 }
 
 /// The mark that a reply gives to its event.

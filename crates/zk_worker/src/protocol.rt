@@ -43,16 +43,27 @@ fn worker_ahead(queue: u32, stage: &Stage, index: u32) -> Option<Step>
     }
 }
 
-/// The attempt of this index among the next attempts of an open script or run.
-pub fn role_ahead(scenario: &Scenario, frame: &Frame, index: u32) -> Option<Step>
-    ensures { result ≡ slice_get (role_attempts scenario.now frame.now.role frame.now.next frame.now.stage) index }
+/// Puts the attempt of this index among the next attempts of the runs of a queue.
+// Put where it is kept, here and below: an attempt is large, and would be moved once for each layer.
+#[inline(never)]
+fn put_worker_ahead(queue: u32, stage: &Stage, index: u32, ahead: &mut Option<Step>)
+    ensures { ahead.new ≡ slice_get (worker_attempts queue stage.now) index }
+{
+    *ahead = worker_ahead(queue, stage, index);
+}
+
+/// Puts the attempt of this index among the next attempts of an open script or run.
+pub fn role_ahead(scenario: &Scenario, frame: &Frame, index: u32, ahead: &mut Option<Step>)
+    ensures { ahead.new ≡ slice_get (role_attempts scenario.now frame.now.role frame.now.next frame.now.stage) index }
 {
     match frame.role {
         Role::Script(owner) => match call_at(scenario, owner, frame.next) {
-            Some(call) => call_ahead(scenario, call, &frame.stage, index),
-            None => None,
+            Some(call) => call_ahead(scenario, call, &frame.stage, index, ahead),
+            None => *ahead = None,
         },
-        Role::Worker(queue) => worker_ahead(scenario.number(queue), &frame.stage, index),
+        Role::Worker(queue) => {
+            put_worker_ahead(scenario.number(queue), &frame.stage, index, ahead)
+        }
     }
 }
 

@@ -40,7 +40,7 @@ fn visit_step(chan: u32, left: &[u32]) -> Step
     }
 }
 
-/// The attempt of this index among the next attempts of a call that uses a channel.
+/// Puts the attempt of this index among the next attempts of a call that uses a channel.
 // Out of line: three calls use one.
 #[inline(never)]
 pub fn channel_ahead(
@@ -49,17 +49,18 @@ pub fn channel_ahead(
     timeout: Timeout,
     stage: &Stage,
     index: u32,
-) -> Option<Step>
-    ensures { result ≡ slice_get (channel_attempts chan usage.now timeout stage.now) index }
+    ahead: &mut Option<Step>,
+)
+    ensures { ahead.new ≡ slice_get (channel_attempts chan usage.now timeout stage.now) index }
 {
     match stage {
-        Stage::Holds if index == 0 => Some(use_step(chan, usage)),
-        Stage::Holds => None,
-        Stage::Visits(left, _) if index == 0 => Some(visit_step(chan, left.numbers())),
-        Stage::Visits(_, _) => None,
-        Stage::Reads(_) if index == 0 => Some(Step::Chan(chan, ChanOp::Free)),
-        Stage::Reads(_) => None,
-        stage => wait_ahead(&asks_for(chan, usage), timeout, stage, index),
+        Stage::Holds if index == 0 => *ahead = Some(use_step(chan, usage)),
+        Stage::Holds => *ahead = None,
+        Stage::Visits(left, _) if index == 0 => *ahead = Some(visit_step(chan, left.numbers())),
+        Stage::Visits(_, _) => *ahead = None,
+        Stage::Reads(_) if index == 0 => *ahead = Some(Step::Chan(chan, ChanOp::Free)),
+        Stage::Reads(_) => *ahead = None,
+        stage => wait_ahead(&asks_for(chan, usage), timeout, stage, index, ahead),
     }
 }
 

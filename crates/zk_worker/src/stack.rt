@@ -52,13 +52,13 @@ pub fn top_call<'s>(scenario: &'s Scenario, stack: &[Frame]) -> Option<&'s Call>
     }
 }
 
-/// The attempt of this index among the next attempts.
-pub fn frames_ahead(scenario: &Scenario, stack: &[Frame], index: u32) -> Option<Step>
-    ensures { result ≡ slice_get (frames_attempts scenario.now (reverse stack.now)) index }
+/// Puts the attempt of this index among the next attempts.
+pub fn frames_ahead(scenario: &Scenario, stack: &[Frame], index: u32, ahead: &mut Option<Step>)
+    ensures { ahead.new ≡ slice_get (frames_attempts scenario.now (reverse stack.now)) index }
 {
     match top_frame(stack) {
-        Some(frame) => role_ahead(scenario, frame, index),
-        None => None,
+        Some(frame) => role_ahead(scenario, frame, index, ahead),
+        None => *ahead = None,
     }
 }
 

@@ -64,13 +64,19 @@ fn first_step(waiting: &Waiting, timeout: Timeout) -> Step
     }
 }
 
-/// The attempt of this index among the next attempts of such a call.
+/// Puts the attempt of this index among the next attempts of such a call.
 // Out of line: several kinds of calls wait.
 #[inline(never)]
-pub fn wait_ahead(waiting: &Waiting, timeout: Timeout, stage: &Stage, index: u32) -> Option<Step>
-    ensures { result ≡ slice_get (wait_attempts waiting.now timeout stage.now) index }
+pub fn wait_ahead(
+    waiting: &Waiting,
+    timeout: Timeout,
+    stage: &Stage,
+    index: u32,
+    ahead: &mut Option<Step>,
+)
+    ensures { ahead.new ≡ slice_get (wait_attempts waiting.now timeout stage.now) index }
 {
-    match stage {
+    *ahead = match stage {
         Stage::Start if index == 0 => Some(first_step(waiting, timeout)),
         Stage::Alarmed(_) if index == 0 => Some(open_step(waiting, true)),
         Stage::Waits(place) if index == 0 => Some(end_step(waiting, *place)),
@@ -78,7 +84,7 @@ pub fn wait_ahead(waiting: &Waiting, timeout: Timeout, stage: &Stage, index: u32
         Stage::WaitsUntil(_, moment) if index == 1 => Some(Step::Clock(ClockOp::AlarmEnd(*moment))),
         Stage::Quits(place) if index == 0 => Some(quit_step(waiting, *place)),
         _ => None,
-    }
+    };
 }
 
 /// What the reply to the step that may begin a wait does to its call.

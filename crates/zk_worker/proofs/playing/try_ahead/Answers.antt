@@ -35,7 +35,7 @@ returns-in-Some-2-clause-tried g c =
     let ahead = attempts c.args.scenario.now c.args.player.now in
     let made = attempted-some _ _ _ _ _ _ _ _ c.in-Some.step _ _ _ c.in-Some-2.reply was.alone was.machines c.who.ensures c.steps.ensures.count
     c.in_ok-reply.ensures.attempted c.in-Some-2.is in
-    first-made _ _ _ _ ahead c.loop-index.index _ _ _ _ _ _ _ _ was.tried (sym {b = slice_get ahead c.loop-index.index} c.in-Some.ensures)
+    first-made _ _ _ _ ahead c.loop-index.index _ _ _ _ _ _ _ _ was.tried (sym c.put_ahead.ensures ∙ c.in-Some.is)
     was.others made c.attempt.ensures.counts
 
 pub returns-in_err-reply-clause-err : goal.returns-in_err-reply-clause-err
@@ -62,7 +62,7 @@ loop-index-preserved g c =
       home = c.attempt.ensures.home ∙ was.home;
       others = between-both alone c.args.player.now.who.number old _ new was.others none.0;
       counts = λ step. omega (arith, was.counts step, (c.attempt.ensures.counts step).0);
-      tried = tried-next alone _ _ ahead c.loop-index.index _ old _ new _ _ _ was.tried (sym {b = slice_get ahead c.loop-index.index} c.in-Some.ensures)
+      tried = tried-next alone _ _ ahead c.loop-index.index _ old _ new _ _ _ was.tried (sym c.put_ahead.ensures ∙ c.in-Some.is)
           was.others none.0 none.1 (c.in_ok-reply.ensures.rose c.in_default-2.is) was.counts c.attempt.ensures.counts;
     }
 
@@ -71,7 +71,7 @@ returns-in_default-clause-tried g c =
     let was = c.loop-index.invariant in
     let ahead = attempts c.args.scenario.now c.args.player.now in
     none-made _ _ _ (length c.args.player.now.spots) _ _ _ _ _ _ was.none
-    (none-behind _ _ _ _ c.loop-index.index _ _ _ _ was.tried (sym {b = slice_get ahead c.loop-index.index} c.in_default.ensures) was.others)
+    (none-behind _ _ _ _ c.loop-index.index _ _ _ _ was.tried (sym c.put_ahead.ensures ∙ c.in_default.is) was.others)
 
 pub returns-clause-tried : goal.returns-clause-tried
 returns-clause-tried g c =
