@@ -95,8 +95,7 @@ fn reschedule(scenario: &Scenario, item: Ref, queue: Ref, delay: u32) -> WorkOp
 }
 
 /// A call of the work service that makes one step, about an item or a queue by its number there.
-// What gives an attempt stands out of line, here and below: a call takes one of these ways, and each has large locals.
-#[inline(never)]
+// An attempt is put where it is kept, here and below: it is large, and would be moved once for each layer.
 fn at_work(op: WorkOp, stage: &Stage, index: u32, ahead: &mut Option<Step>)
     ensures { ahead.new ≡ slice_get (plan_attempts (Plan.One (Step.Work op)) stage.now) index }
 {
@@ -104,7 +103,6 @@ fn at_work(op: WorkOp, stage: &Stage, index: u32, ahead: &mut Option<Step>)
 }
 
 /// A call of the work service that may wait.
-#[inline(never)]
 fn work_wait(opening: WorkOp, closing: Closing, stage: &Stage, index: u32, ahead: &mut Option<Step>)
     ensures { ahead.new ≡ slice_get (plan_attempts (Plan.Pair (Step.Work opening) closing) stage.now) index }
 {
@@ -112,7 +110,6 @@ fn work_wait(opening: WorkOp, closing: Closing, stage: &Stage, index: u32, ahead
 }
 
 /// Both services that have a time go on by so many ticks.
-#[inline(never)]
 fn tick(ticks: u32, stage: &Stage, index: u32, ahead: &mut Option<Step>)
     ensures { ahead.new ≡ slice_get (plan_attempts (Plan.Twice
         (Step.Work (WorkOp.Announce ticks)) (Step.Clock (ClockOp.Announce ticks))) stage.now) index }
@@ -123,7 +120,6 @@ fn tick(ticks: u32, stage: &Stage, index: u32, ahead: &mut Option<Step>)
 }
 
 /// A call that makes one step at a semaphore.
-#[inline(never)]
 fn at_sem(sem: Ref, op: SemOp, stage: &Stage, index: u32, ahead: &mut Option<Step>)
     ensures { ahead.new ≡ slice_get (plan_attempts (Plan.One (Step.Sem (ref_object sem) op)) stage.now) index }
 {
@@ -131,7 +127,6 @@ fn at_sem(sem: Ref, op: SemOp, stage: &Stage, index: u32, ahead: &mut Option<Ste
 }
 
 /// A call that makes one step at a message queue.
-#[inline(never)]
 fn at_msgq(queue: Ref, op: MsgqOp, stage: &Stage, index: u32, ahead: &mut Option<Step>)
     ensures { ahead.new ≡ slice_get (plan_attempts (Plan.One (Step.Msgq (ref_object queue) op)) stage.now) index }
 {
@@ -139,7 +134,6 @@ fn at_msgq(queue: Ref, op: MsgqOp, stage: &Stage, index: u32, ahead: &mut Option
 }
 
 /// A call that writes to a signal.
-#[inline(never)]
 fn at_signal(signal: Ref, op: SignalOp, stage: &Stage, index: u32, ahead: &mut Option<Step>)
     ensures { ahead.new ≡ slice_get (plan_attempts (Plan.One (Step.Signal (ref_object signal) op)) stage.now) index }
 {
@@ -147,7 +141,6 @@ fn at_signal(signal: Ref, op: SignalOp, stage: &Stage, index: u32, ahead: &mut O
 }
 
 /// A call that makes one step at a channel.
-#[inline(never)]
 fn at_chan(chan: Ref, op: ChanOp, stage: &Stage, index: u32, ahead: &mut Option<Step>)
     ensures { ahead.new ≡ slice_get (plan_attempts (Plan.One (Step.Chan (ref_object chan) op)) stage.now) index }
 {
@@ -155,7 +148,6 @@ fn at_chan(chan: Ref, op: ChanOp, stage: &Stage, index: u32, ahead: &mut Option<
 }
 
 /// A call that makes one step at an observer.
-#[inline(never)]
 fn at_observer(observer: Ref, op: ObsOp, stage: &Stage, index: u32, ahead: &mut Option<Step>)
     ensures { ahead.new ≡ slice_get (plan_attempts (Plan.One (Step.Obs (ref_object observer) op)) stage.now) index }
 {
@@ -163,7 +155,6 @@ fn at_observer(observer: Ref, op: ObsOp, stage: &Stage, index: u32, ahead: &mut 
 }
 
 /// A call that makes one step at the object table.
-#[inline(never)]
 fn at_table(op: TableOp, stage: &Stage, index: u32, ahead: &mut Option<Step>)
     ensures { ahead.new ≡ slice_get (plan_attempts (Plan.One (Step.Table op)) stage.now) index }
 {
@@ -183,7 +174,6 @@ fn revoke(thread: Ref, object: Ref) -> TableOp
 }
 
 /// A look at the busy flags of an item.
-#[inline(never)]
 fn look_item(item: Ref, stage: &Stage, index: u32, ahead: &mut Option<Step>)
     ensures { ahead.new ≡ slice_get (plan_attempts (Plan.One (Step.LookItem (ref_object item))) stage.now) index }
 {
@@ -191,7 +181,6 @@ fn look_item(item: Ref, stage: &Stage, index: u32, ahead: &mut Option<Step>)
 }
 
 /// A look at a signal, raised or not.
-#[inline(never)]
 fn look_signal(signal: Ref, stage: &Stage, index: u32, ahead: &mut Option<Step>)
     ensures { ahead.new ≡ slice_get
         (plan_attempts (Plan.One (Step.LookSignal (ref_object signal) false)) stage.now) index }
@@ -200,7 +189,6 @@ fn look_signal(signal: Ref, stage: &Stage, index: u32, ahead: &mut Option<Step>)
 }
 
 /// A call that takes a semaphore.
-#[inline(never)]
 fn take(sem: Ref, timeout: Timeout, stage: &Stage, index: u32, ahead: &mut Option<Step>)
     ensures { ahead.new ≡ slice_get
         (plan_attempts (Plan.Wait (Waiting.Take (ref_object sem)) timeout) stage.now) index }
@@ -215,7 +203,6 @@ fn take(sem: Ref, timeout: Timeout, stage: &Stage, index: u32, ahead: &mut Optio
 }
 
 /// A call that gets a message.
-#[inline(never)]
 fn get(queue: Ref, timeout: Timeout, stage: &Stage, index: u32, ahead: &mut Option<Step>)
     ensures { ahead.new ≡ slice_get
         (plan_attempts (Plan.Wait (Waiting.Get (ref_object queue)) timeout) stage.now) index }
@@ -230,7 +217,6 @@ fn get(queue: Ref, timeout: Timeout, stage: &Stage, index: u32, ahead: &mut Opti
 }
 
 /// A call that claims a channel.
-#[inline(never)]
 fn claim(chan: Ref, timeout: Timeout, stage: &Stage, index: u32, ahead: &mut Option<Step>)
     ensures { ahead.new ≡ slice_get
         (plan_attempts (Plan.Wait (Waiting.Claim (ref_object chan)) timeout) stage.now) index }
@@ -245,7 +231,6 @@ fn claim(chan: Ref, timeout: Timeout, stage: &Stage, index: u32, ahead: &mut Opt
 }
 
 /// A call that waits for a subscriber's next channel.
-#[inline(never)]
 fn wait_at_sub(sub: Ref, timeout: Timeout, stage: &Stage, index: u32, ahead: &mut Option<Step>)
     ensures { ahead.new ≡ slice_get
         (plan_attempts (Plan.Wait (Waiting.SubWait (ref_object sub)) timeout) stage.now) index }
@@ -260,7 +245,6 @@ fn wait_at_sub(sub: Ref, timeout: Timeout, stage: &Stage, index: u32, ahead: &mu
 }
 
 /// A call that puts a message.
-#[inline(never)]
 fn put_message(
     queue: Ref,
     message: &Msg,
@@ -282,7 +266,6 @@ fn put_message(
 }
 
 /// A call that publishes a message.
-#[inline(never)]
 fn publish(
     chan: Ref,
     message: &Msg,
@@ -305,7 +288,6 @@ fn publish(
 }
 
 /// A call that notifies the observers of a channel.
-#[inline(never)]
 fn notify(chan: Ref, timeout: Timeout, stage: &Stage, index: u32, ahead: &mut Option<Step>)
     ensures { ahead.new ≡ slice_get
         (plan_attempts (Plan.Channel (ref_object chan) Using.Notify timeout) stage.now) index }
@@ -321,7 +303,6 @@ fn notify(chan: Ref, timeout: Timeout, stage: &Stage, index: u32, ahead: &mut Op
 }
 
 /// A call that reads the message of a channel.
-#[inline(never)]
 fn read(chan: Ref, timeout: Timeout, stage: &Stage, index: u32, ahead: &mut Option<Step>)
     ensures { ahead.new ≡ slice_get
         (plan_attempts (Plan.Channel (ref_object chan) Using.Read timeout) stage.now) index }
@@ -461,8 +442,7 @@ pub fn call_ahead(
 }
 
 /// A call that has its answer by this reply.
-// What a reply does is put where it is kept, out of line, here and below: it is large, and would be moved once for each layer.
-#[inline(never)]
+// What a reply does is put where it is kept, here and below, as an attempt is.
 fn answers(word: Word, reply: &StepReply, progress: &mut Progress)
     ensures { progress.new ≡ Progress.Answers word (answer_of reply.now) }
 {
@@ -470,7 +450,6 @@ fn answers(word: Word, reply: &StepReply, progress: &mut Progress)
 }
 
 /// A call that may wait from this reply on.
-#[inline(never)]
 fn opens(word: Word, reply: &StepReply, progress: &mut Progress)
     ensures { progress.new ≡ opening_progress word reply.now }
 {
@@ -478,7 +457,6 @@ fn opens(word: Word, reply: &StepReply, progress: &mut Progress)
 }
 
 /// A call that has made the first of its two steps.
-#[inline(never)]
 fn is_halfway(progress: &mut Progress)
     ensures { progress.new ≡ Progress.Goes Stage.Halfway }
 {
@@ -486,7 +464,6 @@ fn is_halfway(progress: &mut Progress)
 }
 
 /// A call that waits at an object.
-#[inline(never)]
 fn waits_on(word: Word, stage: &Stage, reply: &StepReply, progress: &mut Progress)
     ensures { progress.new ≡ wait_progress word stage.now reply.now }
 {
@@ -494,7 +471,6 @@ fn waits_on(word: Word, stage: &Stage, reply: &StepReply, progress: &mut Progres
 }
 
 /// A poll.
-#[inline(never)]
 fn polls_on(
     timeout: Timeout,
     events: &Events,
@@ -505,11 +481,10 @@ fn polls_on(
 )
     ensures { progress.new ≡ poll_progress Word.Poll timeout events.now stage.now made.now reply.now }
 {
-    *progress = poll_progress(Word::Poll, timeout, events, stage, made, reply);
+    poll_progress(Word::Poll, timeout, events, stage, made, reply, progress);
 }
 
 /// A call that uses a channel.
-#[inline(never)]
 fn uses_channel(word: Word, stage: &Stage, reply: &StepReply, progress: &mut Progress)
     ensures { progress.new ≡ channel_progress word stage.now reply.now }
 {

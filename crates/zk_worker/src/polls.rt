@@ -249,8 +249,6 @@ fn start_ahead(timeout: Timeout, events: &[Event], index: u32) -> Option<Step>
 
 /// Puts the attempt of this index among the next attempts of a poll.
 #[tactic(auto, using(crate::proofs::PollSteps::few_events))]
-// Out of line, since its locals are large, and few calls poll.
-#[inline(never)]
 pub fn poll_ahead(
     timeout: Timeout,
     events: &Events,
@@ -395,18 +393,19 @@ fn poll_goes(
     events: &[Event],
     alarm: Alarm,
     marks: &[Mark; MOST_EVENTS],
-) -> Progress
+    progress: &mut Progress,
+)
     requires { length events.now ≤ MOST_EVENTS }
-    ensures { result ≡ poll_goes word timeout events.now alarm marks.now }
+    ensures { progress.new ≡ poll_goes word timeout events.now alarm marks.now }
 {
     if is_answered(timeout, events, alarm, marks) {
-        Progress::Answers(word, poll_answer(marks))
+        *progress = Progress::Answers(word, poll_answer(marks));
     } else {
-        Progress::Goes(Stage::Polls(alarm, *marks))
+        *progress = Progress::Goes(Stage::Polls(alarm, *marks));
     }
 }
 
-/// What the reply to a step does to a poll with this alarm and these marks.
+/// Puts what the reply to a step does to a poll with this alarm and these marks.
 fn polled(
     word: Word,
     timeout: Timeout,
@@ -415,17 +414,25 @@ fn polled(
     marks: [Mark; MOST_EVENTS],
     made: &Step,
     reply: &StepReply,
-) -> Progress
+    progress: &mut Progress,
+)
     requires { length events.now ≤ MOST_EVENTS }
-    ensures { result ≡ polled word timeout events.now alarm marks made.now reply.now }
+    ensures { progress.new ≡ polled word timeout events.now alarm marks made.now reply.now }
 {
     let mut marks = marks;
     let place = event_of(events, alarm, &marks, made);
     mark_at(&mut marks, place, mark_of(reply));
-    poll_goes(word, timeout, events, alarm_after(alarm, reply), &marks)
+    poll_goes(
+        word,
+        timeout,
+        events,
+        alarm_after(alarm, reply),
+        &marks,
+        progress,
+    );
 }
 
-/// What the reply to a step does to a poll.
+/// Puts what the reply to a step does to a poll.
 #[tactic(auto, using(crate::proofs::PollSteps::few_events))]
 pub fn poll_progress(
     word: Word,
@@ -434,21 +441,34 @@ pub fn poll_progress(
     stage: &Stage,
     made: &Step,
     reply: &StepReply,
-) -> Progress
-    ensures { result ≡ poll_progress word timeout events.now stage.now made.now reply.now }
+    progress: &mut Progress,
+)
+    ensures { progress.new ≡ poll_progress word timeout events.now stage.now made.now reply.now }
 {
     let events = events.items();
     match (stage, reply) {
         (Stage::Start, StepReply::Clock(ClockReply::At(moment), _)) => {
-            Progress::Goes(Stage::Polls(Alarm::Due(*moment), [Mark::Unasked; MOST_EVENTS]))
+            *progress = Progress::Goes(Stage::Polls(
+                Alarm::Due(*moment),
+                [Mark::Unasked; MOST_EVENTS],
+            ));
         }
         (Stage::Start, _) => {
             let marks = [Mark::Unasked; MOST_EVENTS];
-            polled(word, timeout, events, Alarm::Unset, marks, made, reply)
+            polled(
+                word,
+                timeout,
+                events,
+                Alarm::Unset,
+                marks,
+                made,
+                reply,
+                progress,
+            )
         }
         (Stage::Polls(alarm, marks), _) => {
-            polled(word, timeout, events, *alarm, *marks, made, reply)
+            polled(word, timeout, events, *alarm, *marks, made, reply, progress)
         }
-        _ => Progress::Goes(*stage),
+        _ => *progress = Progress::Goes(*stage),
     }
 }

@@ -43,16 +43,8 @@ fn worker_ahead(queue: u32, stage: &Stage, index: u32) -> Option<Step>
     }
 }
 
-/// Puts the attempt of this index among the next attempts of the runs of a queue.
-// Put where it is kept, here and below: an attempt is large, and would be moved once for each layer.
-#[inline(never)]
-fn put_worker_ahead(queue: u32, stage: &Stage, index: u32, ahead: &mut Option<Step>)
-    ensures { ahead.new ≡ slice_get (worker_attempts queue stage.now) index }
-{
-    *ahead = worker_ahead(queue, stage, index);
-}
-
 /// Puts the attempt of this index among the next attempts of an open script or run.
+// It isn't handed out, since it is large, and would be moved once for each layer.
 pub fn role_ahead(scenario: &Scenario, frame: &Frame, index: u32, ahead: &mut Option<Step>)
     ensures { ahead.new ≡ slice_get (role_attempts scenario.now frame.now.role frame.now.next frame.now.stage) index }
 {
@@ -62,7 +54,7 @@ pub fn role_ahead(scenario: &Scenario, frame: &Frame, index: u32, ahead: &mut Op
             None => *ahead = None,
         },
         Role::Worker(queue) => {
-            put_worker_ahead(scenario.number(queue), &frame.stage, index, ahead)
+            *ahead = worker_ahead(scenario.number(queue), &frame.stage, index);
         }
     }
 }
@@ -88,8 +80,7 @@ fn worker_progress(scenario: &Scenario, stage: &Stage, reply: &StepReply) -> Pro
 }
 
 /// The runs of a queue go on.
-// Out of line, and put where it is kept, as what calls do.
-#[inline(never)]
+// Put where it is kept, as what calls do.
 fn works_on(scenario: &Scenario, stage: &Stage, reply: &StepReply, progress: &mut Progress)
     ensures { progress.new ≡ worker_progress scenario.now.decls stage.now reply.now }
 {
@@ -97,7 +88,6 @@ fn works_on(scenario: &Scenario, stage: &Stage, reply: &StepReply, progress: &mu
 }
 
 /// A script goes on where it stands.
-#[inline(never)]
 fn stays(stage: &Stage, progress: &mut Progress)
     ensures { progress.new ≡ Progress.Goes stage.now }
 {

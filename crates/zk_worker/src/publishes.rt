@@ -41,8 +41,6 @@ fn visit_step(chan: u32, left: &[u32]) -> Step
 }
 
 /// Puts the attempt of this index among the next attempts of a call that uses a channel.
-// Out of line: three calls use one.
-#[inline(never)]
 pub fn channel_ahead(
     chan: u32,
     usage: &Using,

@@ -65,8 +65,6 @@ fn first_step(waiting: &Waiting, timeout: Timeout) -> Step
 }
 
 /// Puts the attempt of this index among the next attempts of such a call.
-// Out of line: several kinds of calls wait.
-#[inline(never)]
 pub fn wait_ahead(
     waiting: &Waiting,
     timeout: Timeout,
