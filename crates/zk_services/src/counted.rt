@@ -83,6 +83,8 @@ fn is_futile_at<S: Service>(objects: &Vec<Option<S>>, object: u32, who: Who, op:
 }
 
 impl Counted for Plain {
+    // In line: each turn of a player that waits asks this.
+    #[inline(always)]
     fn entries(&self, service: ServiceId) -> u64 {
         match service {
             ServiceId::Work => self.work.history().len() as u64,

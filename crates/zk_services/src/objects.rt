@@ -35,8 +35,6 @@ fn act_one<S: Service>(
 /// One attempt at one of the objects of a kind, which stand by object number: the reply, and the place of its entry.
 ///
 /// All other objects stay as they are.
-// Out of line, since its locals are large: they hold messages.
-#[inline(never)]
 pub fn act_at<S: Service>(
     objects: &mut Vec<Option<S>>,
     object: u32,

@@ -93,8 +93,6 @@ impl Plain {
     }
 
     /// One attempt at the work service.
-    // Out of line, as the ones below: an attempt goes to one service, and what is answered has large places.
-    #[inline(never)]
     fn attempt_work(
         &mut self,
         who: Who,
@@ -115,7 +113,6 @@ impl Plain {
     }
 
     /// One attempt at the clock.
-    #[inline(never)]
     fn attempt_clock(
         &mut self,
         who: Who,
@@ -136,7 +133,6 @@ impl Plain {
     }
 
     /// One attempt at the object table.
-    #[inline(never)]
     fn attempt_table(
         &mut self,
         who: Who,
@@ -157,7 +153,6 @@ impl Plain {
     }
 
     /// One attempt at a semaphore.
-    #[inline(never)]
     fn attempt_sem(
         &mut self,
         who: Who,
@@ -178,7 +173,6 @@ impl Plain {
     }
 
     /// One attempt at a message queue.
-    #[inline(never)]
     fn attempt_msgq(
         &mut self,
         who: Who,
@@ -199,7 +193,6 @@ impl Plain {
     }
 
     /// One attempt at a signal.
-    #[inline(never)]
     fn attempt_signal(
         &mut self,
         who: Who,
@@ -220,7 +213,6 @@ impl Plain {
     }
 
     /// One attempt at a channel.
-    #[inline(never)]
     fn attempt_chan(
         &mut self,
         who: Who,
@@ -241,7 +233,6 @@ impl Plain {
     }
 
     /// One attempt at an observer.
-    #[inline(never)]
     fn attempt_observer(
         &mut self,
         who: Who,
