@@ -44,6 +44,8 @@ pub fn no_turns(alloc: Global, players: usize) -> Result<Vec<LastTurn>, NoMemory
 }
 
 /// Whether a step that was asked for in vain is in vain still: its service has as many entries as it had, or says so.
+// Out of line: it looks at one service, and in line the lists of all are loaded first.
+#[inline(never)]
 fn is_futile<V: Counted>(services: &V, who: Who, asked: &Asked) -> bool
     ensures { result ≡ true → IsFutile (V.machines services.now) (V.shown services.now) who asked.now }
 {
