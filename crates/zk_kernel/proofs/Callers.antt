@@ -14,6 +14,11 @@ use Rattle.zk_worker.specs.Playing.{StepOutcome}
 use Rattle.zk_worker.proofs.CheckedSteps.{after-spots}
 use Rattle.zk_world.specs.SoundPlayer.{IsSoundPlayer}
 use Rattle.zk_world.proofs.Players.{player-stepped, player-still}
+use Rattle.zk_base.specs.declared.ids.Who.{Who}
+use Rattle.zk_kernel.specs.declared.cells.Cells.{Cells}
+use Rattle.zk_kernel.specs.declared.passes.Passes.{Passes}
+use Rattle.zk_kernel.specs.Callers.{IsPlaying}
+use Rattle.zk_kernel.specs.Desks.{IsServed, desk_shown}
 
 -- a step doesn't change who the player is
 pub same-who : (alone : Bool) (m : Machines) (s : Content) (at at' : PlayerPlace) (old new : Shown) (counts counts' : Counts) (result : Result Stepped NoMemory) →
@@ -30,3 +35,12 @@ pub still-sound : (m : Machines) (s : Content) (at at' : PlayerPlace) (old new :
     IsSoundPlayer s new at'
 still-sound m s at at' old new counts counts' (Ok stepped) valid same sound does unchanged err = player-stepped false m s at at' old new counts counts' stepped valid same sound does
 still-sound m s at at' old new counts counts' (Err e) valid same sound does unchanged err = subst (IsSoundPlayer s new) (sym unchanged) (player-still false s at old new err sound)
+
+-- passes that serve a player still, and show just its log, are those it may play on with
+pub playing-on : (cells kept : Cells) (s : Content) (at at' : PlayerPlace) (now : Cells) (old new : Passes) → cells ≡ kept → now ≡ cells → at'.who ≡ at.who → IsServed kept old at.who →
+    (IsServed cells old at.who → IsServed now new at.who) → IsSoundPlayer s (desk_shown new) at' → IsPlaying kept s at' new
+playing-on cells kept s at at' now old new same home who served serves sound = record {
+  served = subst (λ (w : Who). IsServed kept new w) (sym who)
+      (subst (λ (cs : Cells). IsServed cs new at.who) (home ∙ same) (serves (subst (λ (cs : Cells). IsServed cs old at.who) (sym same) served)));
+  sound = sound;
+}

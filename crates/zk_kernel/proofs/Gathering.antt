@@ -8,7 +8,7 @@ use Rattle.zk_scenario.specs.Content.{Content}
 use Rattle.zk_world.specs.SoundPlayer.{IsSoundPlayer}
 use Rattle.zk_world.proofs.Players.{player-still}
 use Rattle.zk_kernel.specs.declared.caller.Caller.{Caller}
-use Rattle.zk_kernel.specs.Callers.{IsPlaying, place_of}
+use Rattle.zk_kernel.specs.Callers.{IsPlaying, place_of, shown_to}
 use Rattle.zk_base.specs.declared.ids.Who.{Who}
 use Rattle.zk_base.specs.declared.ids.Entry.{Entry}
 use Rattle.zk_turn.specs.declared.pass.Pass.{Pass}
@@ -17,16 +17,16 @@ use Rattle.zk_turn.specs.Players.{is_by, has, GoesOn}
 use Rattle.zk_worker.specs.Places.{PlayerPlace}
 use Rattle.zk_worker.specs.Single.{OthersGrew}
 use Rattle.zk_worker.specs.Families.{EachGrew}
-use Rattle.zk_worker.specs.Shown.{Shown, AllGrew}
+use Rattle.zk_worker.specs.Shown.{Shown, AllGrew, OnlyOthersCame}
 use Rattle.std.specs.List.{AllZip}
-use Rattle.zk_worker.proofs.Between.{looks-none}
+use Rattle.zk_worker.proofs.Between.{looks-none, between-both}
 use Rattle.zk_worker.specs.Looks.{LooksGrew}
 use Rattle.zk_kernel.specs.declared.cells.Cells.{Cells}
 use Rattle.zk_kernel.specs.declared.passes.Passes.{Passes}
 use Rattle.zk_kernel.specs.Seats.{IsAt}
 use Rattle.zk_kernel.specs.Desks.{IsServed, desk_shown}
 use Rattle.zk_kernel.specs.Rows.{IsSeat, AreSeats}
-use Rattle.zk_kernel.specs.Joined.{StandsFor, StandsIn, AllStand, EachGoesOn, AreFor, AllGoOn, whos, IsKept, AreGathered}
+use Rattle.zk_kernel.specs.Joined.{StandsFor, StandsIn, AllStand, EachGoesOn, AreFor, AllGoOn, whos, IsKept, AreGathered, AreTogether, GoOnFrom, IsAmong}
 
 has_left : (ws us : List Who) (n : ℕ) → has ws n ≡ true → has (ws ++ us) n ≡ true
 has_left [] us n is = absurd (cc)
@@ -136,6 +136,39 @@ more_together c s into other now players at gathered playing stand goes goes' =
       stand = subst (λ (l : List Who). AreFor c l now) (sym told) stand;
       kept = subst (λ (l : List Who). All (IsKept s l (desk_shown now)) (players ++ at ∷ [])) (sym told) kept;
     }
+
+-- a caller that was put to the passes before is among those now
+still-among : (c : Cells) (s : Content) (players : List PlayerPlace) (us : List Who) (all : Option Passes) (now : Passes) → AreTogether c s players all → GoOnFrom (whos players) all now →
+    (x : Caller) → IsAmong (whos players) all x → IsAmong (whos players ++ us) (Some now) x
+still-among c s players us None now together goes x is = absurd (
+    let none = ap (λ (ps : List PlayerPlace). has (whos ps) (place_of x).who.number) together in
+    let never = sym none ∙ is.among in cc)
+still-among c s players us (Some into) now together goes x is =
+    let n = (place_of x).who.number in
+    record {
+      among = has_left (whos players) us n is.among;
+      seen = between-both false n (shown_to x) (desk_shown into) (desk_shown now) is.seen (all_grew (whos players) n (desk_shown into) (desk_shown now) is.among goes);
+    }
+
+-- and so is one more
+pub more-among : (c : Cells) (s : Content) (players players' : List PlayerPlace) (all : Option Passes) (now : Passes) (front : List Caller) (x : Caller) → AreTogether c s players all →
+    GoOnFrom (whos players) all now → OnlyOthersCame false (place_of x).who.number (shown_to x) (desk_shown now) → players' ≡ players ++ place_of x ∷ [] →
+    All (IsAmong (whos players) all) front → All (IsAmong (whos players') (Some now)) (front ++ x ∷ [])
+more-among c s players players' all now front x together goes later more among =
+    let us : List Who = (place_of x).who ∷ [] in
+    let told : whos players' ≡ whos players ++ us = ap whos more ∙ map_push (λ (a : PlayerPlace). a.who) players (place_of x) in
+    let P : Caller → Type 0 = IsAmong (whos players) all in
+    let Q : Caller → Type 0 = IsAmong (whos players ++ us) (Some now) in
+    let here : Q x = record { among = has_right (whos players) us (place_of x).who.number (has_self (place_of x).who); seen = later } in
+    subst (λ (ws : List Who). All (IsAmong ws (Some now)) (front ++ x ∷ [])) (sym told)
+    (All-append Q front (x ∷ []) (All-weaker P Q (still-among c s players us all now together goes) front among) (All-cons Q x [] here (All-nil Q)))
+
+-- the callers taken so far, and those that are left
+pub split-next : (xs ys : List Caller) (r : Option Caller) (c : Caller) (front : List Caller) → xs ≡ ys ++ option_to_list r → r ≡ Some c → front ++ reverse xs ≡ (front ++ c ∷ []) ++ reverse ys
+split-next xs ys r c front items is =
+    ap (λ (l : List Caller). front ++ reverse l) (items ∙ ap (λ (o : Option Caller). ys ++ option_to_list o) is)
+    ∙ ap (λ (l : List Caller). front ++ l) (reverse-append ys (c ∷ []))
+    ∙ sym (append_assoc front (c ∷ []) (reverse ys))
 
 -- the last caller is taken
 pub popped : (P : Caller → Type 0) (xs ys : List Caller) (r : Option Caller) (c : Caller) → xs ≡ ys ++ option_to_list r → r ≡ Some c → All P xs → All P ys × P c

@@ -1,5 +1,9 @@
 -- A call that is under way: its beginning, and what a step makes of it.
-use Rattle.std.proofs.Common.{◌≡◌, ◌⊎◌, inl, inr, ℕ, Bool, true, false, cond, ◌==◌, not, ◌&&◌, nat_le, Option, Some, None, List, [], ◌∷◌, ◌++◌, length, All, refl, sym, ap, subst, ◌∙◌}
+use Rattle.std.proofs.Common.{◌≡◌, ◌⊎◌, inl, inr, ℕ, Bool, true, false, cond, ◌==◌, not, ◌&&◌, nat_le, Option, Some, None, List, [], ◌∷◌, ◌++◌, length, All, refl, sym, ap, subst, ◌∙◌, nat_lt, ◌||◌, ◌-◌, arith}
+use Rattle.std.specs.Option.{option_map}
+use Rattle.std.proofs.lemmas.List.{length_push}
+use Rattle.zk_line.proofs.Lists.{slice_get-push}
+use Rattle.zk_worker.specs.declared.answers.Answered.{Answered}
 use Rattle.std.specs.List.{slice_get}
 use Rattle.std.proofs.lemmas.List.Elements.{All-nil, All-cons, All-weaker}
 use Rattle.zk_line.specs.declared.types.Call.{Call}
@@ -22,7 +26,7 @@ use Rattle.zk_worker.specs.Shown.{Shown, OnlyOthersCame}
 use Rattle.zk_kernel.specs.Calling.{Moment, IsNext, CameBy, IsCalled, IsLeft, IsSpent, is_answered, is_checking}
 use Rattle.zk_kernel.specs.Kernels.{Shared}
 use Rattle.zk_worker.specs.Next.{role_call, top_call, next_call}
-use Rattle.zk_kernel.specs.Within.{IsCallOf, IsWithin, IsCheckedOrSame, IsUnderWay}
+use Rattle.zk_kernel.specs.Within.{IsCallOf, IsWithin, IsCheckedOrSame, IsUnderWay, answer_since}
 use Rattle.zk_kernel.proofs.Within.{Stays, Ends, none-came, within-steps}
 
 -- a player that makes a call next stands at its beginning
@@ -93,34 +97,41 @@ stepped k call old now next way did = by (subst (λ (at : PlayerPlace). Stays k.
         ⊎ (answer : Answer) × IsCalled k call old next answer × (is_answered (length old.place.frames) now.place next.place ≡ true)
     by (inl stays) =
         let none = subst (λ (d : ℕ). is_answered d now.place next.place ≡ false) depth stays.none in
-        inl (record {
-          frame = way.frame;
-          below = way.below;
-          began = way.began;
-          is = way.is;
-          within = stays.within;
-          earlier = now ∷ way.earlier;
-          came = ((Did, did), none, way.came);
-          only = λ start.
-              let at = stays.checking start in
-              All-weaker P (IsCheckedOrSame k.scenario next.place) (λ m checks. inl checks) (now ∷ way.earlier) (All-cons P now way.earlier at.1 (settle at.1 (way.only at.0)));
-        }, none)
+        inl (
+          record {
+            frame = way.frame;
+            below = way.below;
+            began = way.began;
+            is = way.is;
+            within = stays.within;
+            earlier = now ∷ way.earlier;
+            came = ((Did, did), none, way.came);
+            only = λ start.
+                let at = stays.checking start in
+                All-weaker P (IsCheckedOrSame k.scenario next.place) (λ m checks. inl checks) (now ∷ way.earlier) (All-cons P now way.earlier at.1 (settle at.1 (way.only at.0)));
+          },
+          none,
+        )
     by (inr ends) =
         let told = subst (λ (d : ℕ). is_answered d now.place next.place ≡ true) depth ends.told in
-        inr (ends.answer, record {
-          before = now;
-          earlier = way.earlier;
-          came = way.came;
-          last = (Did, did);
-          answers = told;
-          word = ends.word;
-          added = ends.added;
-          own = λ few. ends.own (subst (λ (d : ℕ). nat_le (length now.place.frames) d ≡ true) (sym depth) few);
-          dead = ends.dead;
-          checks = λ oops few.
-              let at = ends.checks oops (subst (λ (d : ℕ). nat_le (length now.place.frames) d ≡ true) (sym depth) few) in
-              All-cons P now way.earlier at.1 (settle at.1 (way.only at.0));
-        }, told)
+        inr (
+          ends.answer,
+          record {
+            before = now;
+            earlier = way.earlier;
+            came = way.came;
+            last = (Did, did);
+            answers = told;
+            word = ends.word;
+            added = ends.added;
+            own = λ few. ends.own (subst (λ (d : ℕ). nat_le (length now.place.frames) d ≡ true) (sym depth) few);
+            dead = ends.dead;
+            checks = λ oops few.
+                let at = ends.checks oops (subst (λ (d : ℕ). nat_le (length now.place.frames) d ≡ true) (sym depth) few) in
+                All-cons P now way.earlier at.1 (settle at.1 (way.only at.0));
+          },
+          told,
+        )
 
 -- attempts in vain leave it as it is
 pub waited : (k : Shared) (call : Call) (old now next : Moment) → IsUnderWay k call old now →
@@ -156,3 +167,42 @@ spent k call old now next way did = record {
 pub left : (k : Shared) (call : Call) (old now next : Moment) → IsUnderWay k call old now → next.place ≡ now.place →
     OnlyOthersCame false now.place.who.number now.shown next.shown → IsLeft k old next
 left k call old now next way same others = record { before = now; earlier = way.earlier; came = way.came; place = same; others = others }
+
+-- what a step gives
+abbrev pub GoesOrAnswers : Shared → Call → Moment → Moment → Option Answer → Type 0
+GoesOrAnswers k call old next None = IsUnderWay k call old next
+GoesOrAnswers k call old next (Some answer) = IsCalled k call old next answer
+
+last-of : (at : List Answered) (one : Answered) → option_map (λ a. a.answer) (slice_get (at ++ one ∷ []) (length (at ++ one ∷ []) - 1)) ≡ Some one.answer
+last-of at one =
+    let here : length (at ++ one ∷ []) - 1 ≡ length at = omega (arith, length_push at one) in
+    ap (λ (n : ℕ). option_map (λ a. a.answer) (slice_get (at ++ one ∷ []) n)) here ∙ ap (λ (o : Option Answered). option_map (λ a. a.answer) o) (slice_get-push at one)
+
+-- a step that was made, and what is told of its answer
+pub answers-or-not : (k : Shared) (call : Call) (old now next : Moment) (depth before : ℕ) (own : Bool) → IsUnderWay k call old now →
+    HasStepped false (machines_of k.scenario) k.scenario now.place next.place now.shown next.shown now.counts next.counts → depth ≡ length old.place.frames →
+    before ≡ length now.place.answers → own ≡ nat_le (length now.place.frames) depth → GoesOrAnswers k call old next (answer_since next.place before own)
+answers-or-not k call old now next depth before own way did deep many is_own = by (stepped k call old now next way did) where
+  same : (nat_lt before (length next.place.answers) && (own || is_dead next.place.mode)) ≡ is_answered (length old.place.frames) now.place next.place
+  same = ap (λ (n : ℕ). nat_lt n (length next.place.answers) && (own || is_dead next.place.mode)) many
+      ∙ ap (λ (b : Bool). nat_lt (length now.place.answers) (length next.place.answers) && (b || is_dead next.place.mode)) is_own
+      ∙ ap (λ (d : ℕ). is_answered d now.place next.place) deep
+
+  told : (b : Bool) → is_answered (length old.place.frames) now.place next.place ≡ b →
+      answer_since next.place before own ≡ cond b (option_map (λ a. a.answer) (slice_get next.place.answers (length next.place.answers - 1))) None
+  told b is = ap (λ (c : Bool). cond c (option_map (λ a. a.answer) (slice_get next.place.answers (length next.place.answers - 1))) None) (same ∙ is)
+
+  by : (IsUnderWay k call old next × (is_answered (length old.place.frames) now.place next.place ≡ false)
+      ⊎ (answer : Answer) × IsCalled k call old next answer × (is_answered (length old.place.frames) now.place next.place ≡ true)) →
+      GoesOrAnswers k call old next (answer_since next.place before own)
+  by (inl goes) = subst (GoesOrAnswers k call old next) (sym (told false goes.1)) goes.0
+  by (inr ends) =
+      let one : Answered = record { step = length ends.1.before.place.spots; word = ends.1.word; answer = ends.0 } in
+      let last = ap (λ (l : List Answered). option_map (λ a. a.answer) (slice_get l (length l - 1))) ends.1.added in
+      subst (GoesOrAnswers k call old next) (sym (told true ends.2 ∙ last ∙ last-of ends.1.before.place.answers one)) ends.1
+
+-- a caller that lives is neither stopped nor dead
+pub lives-both : (stopped dead : Bool) → (not stopped && not dead) ≡ true → (stopped ≡ false) × (dead ≡ false)
+lives-both true dead lives = absurd (cc)
+lives-both false true lives = absurd (cc)
+lives-both false false lives = (refl, refl)

@@ -1,5 +1,5 @@
 -- Passes that are put together.
-use Rattle.std.specs.Prelude.{◌≡◌, ℕ, Bool, true, length, Option, Some, None, List, [], ◌∷◌, ◌++◌, map, All}
+use Rattle.std.specs.Prelude.{◌≡◌, ℕ, Bool, true, false, length, Option, Some, None, List, [], ◌∷◌, ◌++◌, map, All}
 use Rattle.std.specs.List.{AllZip}
 use Rattle.zk_base.specs.declared.ids.Who.{Who}
 use Rattle.zk_base.specs.declared.ids.Entry.{Entry}
@@ -26,7 +26,9 @@ use Rattle.zk_turn.specs.Players.{has, GoesOn}
 use Rattle.zk_turn.specs.Passes.{IsPassOf, pass_players}
 use Rattle.zk_scenario.specs.Content.{Content}
 use Rattle.zk_worker.specs.Places.{PlayerPlace}
-use Rattle.zk_worker.specs.Shown.{Shown}
+use Rattle.zk_worker.specs.Shown.{Shown, OnlyOthersCame}
+use Rattle.zk_kernel.specs.declared.caller.Caller.{Caller}
+use Rattle.zk_kernel.specs.Callers.{place_of, shown_to, shown_by}
 use Rattle.zk_kernel.specs.declared.cells.Cells.{Cells}
 use Rattle.zk_kernel.specs.declared.passes.Passes.{Passes}
 use Rattle.zk_world.specs.SoundPlayer.{IsSoundPlayer}
@@ -102,3 +104,13 @@ pub record AreGathered (c : Cells) (s : Content) (players : List PlayerPlace) (a
 abbrev pub AreTogether : Cells → Content → List PlayerPlace → Option Passes → Type 0
 AreTogether c s players None = players ≡ []
 AreTogether c s players (Some all) = AreGathered c s players all
+
+-- what these passes have seen goes on from what those of these players had, if there were some
+abbrev pub GoOnFrom : List Who → Option Passes → Passes → Type 0
+GoOnFrom ws None now = Unit {0}
+GoOnFrom ws (Some into) now = AllGoOn ws (desk_shown into) (desk_shown now)
+
+-- a caller's passes were put to these: its player is one of these, and they have seen all that it had
+pub record IsAmong (ws : List Who) (all : Option Passes) (c : Caller) : Type 0 where
+  pub among : has ws (place_of c).who.number ≡ true
+  pub seen : OnlyOthersCame false (place_of c).who.number (shown_to c) (shown_by all)

@@ -1,5 +1,5 @@
 -- A player within a call of its script.
-use Rattle.std.specs.Prelude.{◌≡◌, ◌⊎◌, ℕ, Bool, true, false, Option, Some, None, Result, List, [], ◌∷◌, ◌++◌, length, slice_get, All}
+use Rattle.std.specs.Prelude.{◌≡◌, ◌⊎◌, ℕ, ◌-◌, Bool, true, false, ◌&&◌, ◌||◌, nat_lt, if◌then◌else◌, option_map, Option, Some, None, Result, List, [], ◌∷◌, ◌++◌, length, slice_get, All}
 use Rattle.zk_line.specs.declared.types.Call.{Call}
 use Rattle.zk_scenario.specs.Content.{Content}
 use Rattle.zk_scenario.specs.Players.{calls_of}
@@ -47,3 +47,9 @@ pub record IsUnderWay (k : Shared) (call : Call) (old now : Moment) : Type 0 whe
 abbrev pub GoesOrGives : Shared → Call → Moment → Moment → Option (Result Answer Stop) → Type 0
 GoesOrGives k call old now None = IsUnderWay k call old now
 GoesOrGives k call old now (Some given) = HasCalled k call old now given
+
+-- what a step answered to a call, which was of the call's own script or of one that it entered: the last answer, if it is new
+abbrev pub answer_since : PlayerPlace → ℕ → Bool → Option Answer
+answer_since at before own =
+    if nat_lt before (length at.answers) && (own || is_dead at.mode)
+    then option_map (λ a. a.answer) (slice_get at.answers (length at.answers - 1)) else None

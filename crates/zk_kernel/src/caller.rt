@@ -96,9 +96,7 @@ impl Caller {
             passes,
         } = desk;
         self.passes = Some(passes);
-        if let Ok(Stepped::Did) = stepped {
-            kernel.news().tell(rt);
-        }
+        kernel.news().tell_of(rt, &stepped);
         stepped
     }
 }

@@ -1,4 +1,4 @@
-ghost use Rattle.std.specs.Prelude.{◌≡◌, ◌<◌, length, IfOk, OnErr, true, false, Some, None, IfSome, IfNone};
+ghost use Rattle.std.specs.Prelude.{◌≡◌, nat_le, length, IfOk, true, false, Some, None};
 ghost use Rattle.zk_worker.specs.Attempt.{Attempted};
 ghost use Rattle.zk_base.specs.Causes.{Rose};
 ghost use Rattle.zk_worker.specs.Machines.{machines_of};
@@ -6,7 +6,7 @@ ghost use Rattle.zk_worker.specs.Protocol.{IsAhead};
 ghost use Rattle.zk_kernel.specs.Callers.{IsCaller, place_of, shown_to, counts_of, is_stopped, lives, attempted_at};
 ghost use Rattle.zk_kernel.specs.Calling.{Moment, moment_of, HasCalled, stops_by};
 ghost use Rattle.zk_worker.specs.Next.{next_call};
-ghost use Rattle.zk_kernel.specs.Within.{IsUnderWay, GoesOrGives};
+ghost use Rattle.zk_kernel.specs.Within.{IsUnderWay, GoesOrGives, answer_since};
 ghost use Rattle.zk_worker.specs.Follows.{is_through};
 
 use crate::caller::Caller;
@@ -95,6 +95,33 @@ impl Caller {
         unreachable!()
     }
 
+    // How many calls it has answered.
+    fn answers(&self) -> usize
+        ensures { result ≡ length (place_of self.now).answers }
+    {
+        self.player.answers().len()
+    }
+
+    // Whether no more than so many scripts are open.
+    fn has_at_most(&self, depth: u32) -> bool
+        ensures { result ≡ nat_le (length (place_of self.now).frames) depth }
+    {
+        self.player.depth() <= depth
+    }
+
+    // What the step behind so many answers answered to a call, which was of the call's own script or of one that it entered.
+    fn answer_since(&self, before: usize, is_own: bool) -> Option<Answer>
+        ensures { result ≡ answer_since (place_of self.now) before is_own }
+    {
+        let answers = self.player.answers();
+        let is_dead = self.player.mode() == Mode::Dead;
+        if before < answers.len() && (is_own || is_dead) {
+            let answered = answers.last()?;
+            return Some(answered.answer);
+        }
+        None
+    }
+
     // The next step of a call that began when so many scripts were open, or a wait for it; and what the call gives, if it
     // was the last one.
     fn go_on<R: Wait>(
@@ -112,18 +139,15 @@ impl Caller {
             GoesOrGives kernel.now call.now began (moment_of self.new) result }
         ensures own { IsCaller kernel.now self.new }
         ensures who { (place_of self.new).who ≡ (place_of self.old).who }
+        ensures stopped { is_stopped self.new ≡ is_stopped self.old }
     {
-        let answers = self.player.answers().len();
-        let is_own = self.player.depth() <= depth;
+        let before = self.answers();
+        let is_own = self.has_at_most(depth);
         match self.step(rt, kernel) {
             Ok(Stepped::Did) => {
                 patience.end();
-                let Some(answered) = self.player.answers().last() else {
-                    return None;
-                };
-                let is_new = answers < self.player.answers().len();
-                let is_over = is_own || self.player.mode() == Mode::Dead;
-                (is_new && is_over).then_some(Ok(answered.answer))
+                let answer = self.answer_since(before, is_own)?;
+                Some(Ok(answer))
             }
             Ok(Stepped::NotYet) => {
                 patience.wait(rt);

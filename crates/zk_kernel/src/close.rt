@@ -1,8 +1,10 @@
-ghost use Rattle.std.specs.Prelude.{◌≡◌, ◌+◌, ◌<◌, ◌≤◌, ◌++◌, ◌∷◌, [], List, map, IfOk, vec_len, vec_capacity};
+ghost use Rattle.std.specs.Prelude.{◌≡◌, ◌+◌, ◌<◌, ◌≤◌, ◌++◌, ◌∷◌, [], false, List, Some, All, map, IfOk, vec_len, vec_capacity};
 ghost use Rattle.zk_scenario.specs.Content.{Content};
 ghost use Rattle.zk_worker.specs.Places.{PlayerPlace};
-ghost use Rattle.zk_kernel.specs.Callers.{IsCaller, IsPlaying, place_of};
-ghost use Rattle.zk_kernel.specs.Joined.{AreTogether, AreGathered};
+ghost use Rattle.zk_worker.specs.Shown.{OnlyOthersCame};
+ghost use Rattle.zk_kernel.specs.Callers.{IsCaller, IsPlaying, place_of, shown_to};
+ghost use Rattle.zk_kernel.specs.Desks.{desk_shown};
+ghost use Rattle.zk_kernel.specs.Joined.{AreTogether, AreGathered, GoOnFrom, IsAmong, whos};
 ghost use Rattle.zk_kernel.specs.Rests.{AreAllCallers, HasClosed};
 
 use crate::caller::Caller;
@@ -21,8 +23,12 @@ use zk_worker::Player;
 fn put_together(cells: &Cells, all: Option<Passes>, other: Passes) -> Passes
     requires all { (s : Content) × (players : List PlayerPlace) × (at : PlayerPlace) × AreTogether cells.now s players all
         × IsPlaying cells.now s at other }
-    ensures { (s : Content) (players : List PlayerPlace) (at : PlayerPlace) → AreTogether cells.now s players all →
+    ensures gathered { (s : Content) (players : List PlayerPlace) (at : PlayerPlace) → AreTogether cells.now s players all →
         IsPlaying cells.now s at other → AreGathered cells.now s (players ++ at ∷ []) result }
+    ensures earlier { (s : Content) (players : List PlayerPlace) (at : PlayerPlace) → AreTogether cells.now s players all →
+        IsPlaying cells.now s at other → GoOnFrom (whos players) all result }
+    ensures later { (s : Content) (players : List PlayerPlace) (at : PlayerPlace) → AreTogether cells.now s players all →
+        IsPlaying cells.now s at other → OnlyOthersCame false at.who.number (desk_shown other) (desk_shown result) }
 {
     match all {
         Some(mut into) => {
@@ -44,6 +50,8 @@ fn gather_one(
     requires all { AreTogether kernel.now.cells kernel.now.scenario players.old.items all }
     requires room { vec_len players.old < vec_capacity players.old }
     ensures all { AreGathered kernel.now.cells kernel.now.scenario players.new.items result }
+    ensures earlier { GoOnFrom (whos players.old.items) all result }
+    ensures later { OnlyOthersCame false (place_of caller).who.number (shown_to caller) (desk_shown result) }
     ensures players { players.new.items ≡ players.old.items ++ place_of caller ∷ [] }
     ensures len { vec_len players.new ≡ vec_len players.old + 1 }
     ensures capacity { vec_capacity players.old ≤ vec_capacity players.new }
@@ -67,6 +75,7 @@ fn gather_all(
     requires all { AreAllCallers kernel.now callers.items }
     ensures together { IfOk result (λ made. AreGathered kernel.now.cells kernel.now.scenario made.1.items made.0) }
     ensures players { IfOk result (λ made. made.1.items ≡ map place_of callers.items) }
+    ensures seen { IfOk result (λ made. All (IsAmong (whos made.1.items) (Some made.0)) callers.items) }
 {
     let _cells = kernel.cells();
     let mut players = Vec::with_capacity(alloc, callers.len())?;

@@ -1,6 +1,9 @@
-use std::sync::atomic::{AtomicU32, Ordering::SeqCst};
+use std::sync::atomic::AtomicU32;
+use std::sync::atomic::Ordering::SeqCst;
 use std::sync::{Condvar, Mutex, Wait};
 use std::thread;
+use zk_base::NoMemory;
+use zk_worker::Stepped;
 
 /// How often a caller that waits tries again before it sleeps.
 const TRIES: u32 = 50;
@@ -37,6 +40,13 @@ impl News {
         *steps = steps.wrapping_add(1);
         drop(steps);
         self.made.notify_all();
+    }
+
+    /// Wakes all who sleep, if a step was made.
+    pub fn tell_of<R: Wait>(&self, rt: &R, stepped: &Result<Stepped, NoMemory>) {
+        if let Ok(Stepped::Did) = stepped {
+            self.tell(rt);
+        }
     }
 
     fn count<R: Wait>(&self, rt: &R) -> u64 {

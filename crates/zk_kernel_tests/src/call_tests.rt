@@ -1,25 +1,29 @@
 //! Whole calls and single attempts, played by hand on one thread.
-use crate::{play_calls, play_steps};
 use crate::scenarios::{lawful, scenario};
+use crate::{play_calls, play_steps};
 use std::test::Fail;
 use zk_base::Errno;
 use zk_kernel::{Kernel, Stop};
 use zk_worker::{Answer, Step, Stepped};
 
 /// One thread whose every call is answered at once.
-const ALONE: &str = "zk 1\nthread main 0 super\nsem done 0 2\nsignal ready\nscript main\ngive done\ntake done no\ntake done no\n\
+const ALONE: &str =
+    "zk 1\nthread main 0 super\nsem done 0 2\nsignal ready\nscript main\ngive done\ntake done no\ntake done no\n\
     raise ready 7\ncheck ready\ncount done\nend\n";
 
 /// A user without permission on what it asks for.
-const FAILING: &str = "zk 1\nthread guest 0 user\nthread main 0 super\nsem done 0 2\nsem over 0 2\nallow guest over\nscript guest\n\
+const FAILING: &str =
+    "zk 1\nthread guest 0 user\nthread main 0 super\nsem done 0 2\nsem over 0 2\nallow guest over\nscript guest\n\
     give over\ngive done\ngive over\nend\nscript main\ncount over\nend\n";
 
 /// Two threads that submit the same item, and a third that looks at it.
-const LOOKED_AT: &str = "zk 1\nthread first 0 super\nthread second 0 super\nthread watcher 0 super\nqueue sys 0 on\nitem report\n\
+const LOOKED_AT: &str =
+    "zk 1\nthread first 0 super\nthread second 0 super\nthread watcher 0 super\nqueue sys 0 on\nitem report\n\
     script first\nsubmit report sys\nend\nscript second\nsubmit report sys\nend\nscript watcher\nbusy report\nbusy report\nend\n";
 
 /// A thread that takes what another gives after its first try.
-const TAKEN: &str = "zk 1\nthread taker 0 super\nthread giver 0 super\nsem done 0 2\nscript taker\ntake done forever\nend\n\
+const TAKEN: &str =
+    "zk 1\nthread taker 0 super\nthread giver 0 super\nsem done 0 2\nscript taker\ntake done forever\nend\n\
     script giver\ngive done\nend\n";
 
 #[test]
@@ -123,7 +127,9 @@ fn a_player_that_is_spent_stops(rt: HostRuntime) -> Result<(), Fail> {
     let mut text = Vec::new(rt.alloc());
     text.extend_from_slice(b"zk 1\nthread main 0 super\nsem done 0 1\nscript main\ncount done\n")?;
     for _ in 0..2_500 {
-        text.extend_from_slice(b"poll no sem:done sem:done sem:done sem:done sem:done sem:done sem:done sem:done\n")?;
+        text.extend_from_slice(
+            b"poll no sem:done sem:done sem:done sem:done sem:done sem:done sem:done sem:done\n",
+        )?;
     }
     text.extend_from_slice(b"end\n")?;
     let scenario = scenario(rt.alloc(), &text)?;
@@ -139,7 +145,8 @@ fn a_player_that_is_spent_stops(rt: HostRuntime) -> Result<(), Fail> {
 }
 
 /// A take whose ticks another thread announces.
-const TIMED: &str = "zk 1\nthread waiter 0 super\nthread ticker 0 super\nsem never 0 1\nscript waiter\ntake never 5\nend\n\
+const TIMED: &str =
+    "zk 1\nthread waiter 0 super\nthread ticker 0 super\nsem never 0 1\nscript waiter\ntake never 5\nend\n\
     script ticker\ntick 3\ntick 3\nend\n";
 
 #[test]
@@ -163,6 +170,14 @@ fn a_wait_ends_with_its_ticks(rt: HostRuntime) -> Result<(), Fail> {
             answers.push(answered.answer)?;
         }
     }
-    assert_eq!(rt; answers.as_slice(), [Answer::Refused(Errno::Again), Answer::Number(0), Answer::Number(0)].as_slice());
+    assert_eq!(rt;
+        answers.as_slice(),
+        [
+            Answer::Refused(Errno::Again),
+            Answer::Number(0),
+            Answer::Number(0)
+        ]
+        .as_slice()
+    );
     Ok(())
 }

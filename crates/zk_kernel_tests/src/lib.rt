@@ -1,13 +1,12 @@
 //! The shared kernel as its callers use it, on one thread and on many, and the tests of it.
 #![tactic(auto)]
 
-mod parts;
-mod rounds;
-
 #[cfg(test)]
 mod call_tests;
+mod parts;
 #[cfg(test)]
 mod round_tests;
+mod rounds;
 #[cfg(test)]
 mod scenarios;
 #[cfg(test)]

@@ -1,7 +1,6 @@
 //! Callers that step in turn on one thread make the trace of `replay`.
-use crate::play_rounds;
-use crate::finish;
 use crate::scenarios::{EVERY, HANDED, MOST_ROUNDS, scenario};
+use crate::{finish, play_rounds};
 use std::alloc::Global;
 use std::sync::Wait;
 use std::test::Fail;

@@ -1,4 +1,5 @@
 //! The scenarios that the tests play, and what is asked of their traces.
+use crate::finish;
 use std::alloc::Global;
 use std::test::Fail;
 use zk_base::NoMemory;
@@ -7,18 +8,18 @@ use zk_kernel::Rest;
 use zk_scenario::{Scenario, read_scenario};
 use zk_trace::Trace;
 
-use crate::finish;
-
 /// More rounds than any of these scenarios has steps.
 pub const MOST_ROUNDS: u32 = 10_000;
 
 /// Two threads that hand a flash and a bus to each other, and a worker with one item.
-pub const HANDED: &str = "zk 1\nthread radio 0 super\nthread logger 0 super\nqueue q0 1 on\nitem w0\nsem bus 0 1\nsem flash 0 1\n\
+pub const HANDED: &str =
+    "zk 1\nthread radio 0 super\nthread logger 0 super\nqueue q0 1 on\nitem w0\nsem bus 0 1\nsem flash 0 1\n\
     msgq m0 2 2\nsignal g0\nscript radio\ngive bus\nput m0 0a0b no\nraise g0 7\nsubmit w0 q0\ntake flash forever\nend\n\
     script logger\ntake bus forever\nget m0 forever\npoll forever sig:g0\ngive flash\ncount bus\nend\n";
 
 /// The kinds of objects all together: a publish whose listener submits, a poll with ticks, a user with two permissions, a drain.
-pub const EVERY: &str = "zk 1\nthread main 0 super\nthread sensor 3 super\nthread logger 10 user\nqueue sys -1 on\n\
+pub const EVERY: &str =
+    "zk 1\nthread main 0 super\nthread sensor 3 super\nthread logger 10 user\nqueue sys -1 on\n\
     item report\nmsgq log 4 16\nsem done 0 8\nsignal ready\nlistener onsample\nsub store 16\n\
     chan sample 4 00000000 any onsample store\nallow logger log\nallow logger done\n\
     script main\npoll 30 sig:ready sem:done\ntick 40\ntake done 5\ntick 5\ndrain sys open\ncancelsync report\nbusy report\nend\n\

@@ -1,13 +1,12 @@
 //! Players on threads: however their steps fall, the trace is lawful.
+use crate::scenarios::{EVERY, HANDED, hundred_gives, lawful, scenario, sixteen_takers};
+use crate::{play_calls, play_each};
+use std::sync::Wait;
 use std::test::Fail;
 use std::thread;
 use std::thread::Threads;
-use std::sync::Wait;
 use zk_kernel::{Caller, Kernel, Stop};
 use zk_trace::Trace;
-
-use crate::scenarios::{EVERY, HANDED, hundred_gives, lawful, scenario, sixteen_takers};
-use crate::{play_calls, play_each};
 
 /// How often each scenario is played.
 const TIMES: u32 = 200;

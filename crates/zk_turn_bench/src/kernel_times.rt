@@ -113,8 +113,10 @@ fn kernels<R: Wait + Clock + Print>(rt: &R, alloc: Global, scenario: &Scenario) 
 /// Prints how long a step and the largest kernel take.
 pub fn kernel_times<R: Wait + Clock + Print + AllocGlobal>(rt: &R) -> io::Result<()> {
     let alloc = rt.alloc();
-    let (Some(few), Some(many)) = (scenario(alloc, givers(alloc)), scenario(alloc, largest(alloc)))
-    else {
+    let (Some(few), Some(many)) = (
+        scenario(alloc, givers(alloc)),
+        scenario(alloc, largest(alloc)),
+    ) else {
         return println!(rt; "out of memory");
     };
     if few.players() == 0 || many.players() == 0 {

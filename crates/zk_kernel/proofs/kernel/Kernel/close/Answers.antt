@@ -1,20 +1,21 @@
-use Rattle.std.proofs.Common.{rules, ◌≡◌, ◌*◌, ℕ, Some, List, length, map, refl, sym, ap, subst, ◌∙◌}
+use Rattle.std.proofs.Common.{rules, ◌≡◌, ◌*◌, ℕ, false, All, Some, List, length, map, refl, sym, ap, subst, ◌∙◌}
 use Rattle.std.specs.List.{slice_get}
 use Rattle.std.proofs.lemmas.List.{length-map}
+use Rattle.std.proofs.lemmas.List.Elements.{All-weaker}
 use Rattle.zk_scenario.specs.Content.{Content}
 use Rattle.zk_services.specs.Alone.{plain_shown}
 use Rattle.zk_turn.specs.Players.{room_of_a_pass}
 use Rattle.zk_worker.specs.Machines.{Machines, machines_of}
 use Rattle.zk_worker.specs.Places.{PlayerPlace}
-use Rattle.zk_worker.specs.Shown.{Shown}
+use Rattle.zk_worker.specs.Shown.{Shown, OnlyOthersCame}
 use Rattle.zk_world.specs.Legal.{IsLegalShown}
 use Rattle.zk_world.specs.Sound.{IsSound}
 use Rattle.zk_world.specs.Within.{AreWithin}
 use Rattle.zk_world.specs.World.{world}
 use Rattle.zk_kernel.specs.declared.cells.Cells.{Cells}
-use Rattle.zk_kernel.specs.Callers.{place_of}
+use Rattle.zk_kernel.specs.Callers.{place_of, shown_to}
 use Rattle.zk_kernel.specs.Desks.{cells_machines, desk_shown}
-use Rattle.zk_kernel.specs.Joined.{AreFor, whos}
+use Rattle.zk_kernel.specs.Joined.{AreFor, IsAmong, whos}
 use Rattle.zk_kernel.specs.Kernels.{AreWhole}
 use Rattle.zk_kernel.specs.Rests.{Left}
 use Rattle.zk_kernel.proofs.Leaving.{left-sound, many-players, numbered}
@@ -63,5 +64,9 @@ returns c =
         scenario = ap (λ (l : Left). l.scenario) c.of.ensures.rest ∙ c.into_parts-cells.ensures.scenario;
         players = ap (λ (l : Left). l.world.players) c.of.ensures.rest ∙ c.in_ok-all.ensures.players;
         sound = c.of.ensures.sound;
+        seen = subst (λ (h : Shown). All (λ x. OnlyOthersCame false (place_of x).who.number (shown_to x) h) c.args.callers.items)
+            (sym c.in_ok-services.ensures.shown ∙ ap (λ (l : Left). l.world.shown) (sym c.of.ensures.rest))
+            (All-weaker (IsAmong (whos c.in_ok-all.players.items) (Some c.in_ok-all.all)) (λ x. OnlyOthersCame false (place_of x).who.number (shown_to x) (desk_shown c.in_ok-all.all))
+            (λ x is. is.seen) c.args.callers.items c.in_ok-all.ensures.seen);
       };
     }
