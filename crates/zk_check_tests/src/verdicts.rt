@@ -23,14 +23,10 @@ pub struct Verdicts {
 }
 
 impl Verdicts {
-    /// Whether lawful ones came, and such as fail by their places, at a service or by a player.
-    pub fn most_came(&self) -> bool {
-        self.lawful > 0 && self.place > 0 && self.history > 0 && self.log > 0
-    }
-
     /// Whether each of them came.
     pub fn all_came(&self) -> bool {
-        self.most_came() && self.refused > 0 && self.look > 0 && self.ending > 0
+        let failed = [self.place, self.history, self.log, self.look, self.ending];
+        self.refused > 0 && self.lawful > 0 && failed.iter().all(|count| *count > 0)
     }
 
     /// Counts one more; nothing was checked where the text was no trace.

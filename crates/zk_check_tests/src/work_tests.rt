@@ -70,7 +70,7 @@ impl Beside {
 
 #[test]
 fn random_histories(rt: HostRuntime) -> Result<(), Fail> {
-    for history in 0..100 {
+    for history in 0..300 {
         let mut seed = history;
         let mut beside = Beside::new(rt.alloc())?;
         for _ in 0..60 {
