@@ -23,8 +23,6 @@ use zk_uses::{
 };
 use zk_work::Work;
 
-mod kernel_times;
-
 const FIRST: Who = Who { number: 0, prio: 0 };
 
 const SECOND: Who = Who { number: 1, prio: 0 };
@@ -196,6 +194,5 @@ fn main(rt: HostRuntime) -> io::Result<()> {
     turns_of_two(&rt)?;
     turns_of_four(&rt)?;
     own_cells(&rt)?;
-    locks(&rt)?;
-    kernel_times::kernel_times(&rt)
+    locks(&rt)
 }
