@@ -1,0 +1,65 @@
+-- All callers of a kernel, as some of them go on.
+use Rattle.std.proofs.Common.{◌≡◌, ◌<◌, ◌≤◌, ℕ, Bool, true, false, cond, eqb, Option, Some, List, [], ◌∷◌, ◌++◌, length, set, get_or, take, drop, All, refl, sym, ap, subst, ◌∙◌, arith, append-nil}
+use Rattle.std.specs.List.{slice_get}
+use Rattle.std.proofs.lemmas.Bool.{eqb-true}
+use Rattle.std.proofs.lemmas.List.{length-set, drop_all, take_all}
+use Rattle.std.proofs.lemmas.Option.{slice_get_within, slice_get-get_or, slice_get_read, get_or_from_slice_get}
+use Rattle.zk_base.specs.declared.ids.Who.{Who}
+use Rattle.zk_line.proofs.Lists.{slice_get-set}
+use Rattle.zk_kernel.specs.declared.caller.Caller.{Caller}
+use Rattle.zk_kernel.specs.Callers.{IsCaller, place_of}
+use Rattle.zk_kernel.specs.Kernels.{Shared}
+use Rattle.zk_kernel.specs.Rests.{AreAllCallers}
+
+-- a caller is of the player that this one was of
+pub record IsAfter (k : Shared) (old : List Caller) (place : ℕ) (c : Caller) : Type 0 where
+  pub own : IsCaller k c
+  pub before : Caller
+  pub stood : slice_get old place ≡ Some before
+  pub same : (place_of c).who ≡ (place_of before).who
+
+-- they are all callers still, if each is of the player that stood in its place
+pub all-still : (k : Shared) (old new : List Caller) → length new ≡ length old → ((p : ℕ) (c : Caller) → slice_get new p ≡ Some c → IsAfter k old p c) → AreAllCallers k old → AreAllCallers k new
+all-still k old new long after all = record {
+  own = λ p d inside. (after p (get_or new p d) (slice_get-get_or new p d inside)).own;
+  all = long ∙ all.all;
+  numbers = λ p c there.
+      let was = after p c there in
+      ap (λ (w : Who). w.number) was.same ∙ all.numbers p was.before was.stood;
+}
+
+-- one went on
+pub one-on : (k : Shared) (old : List Caller) (place : ℕ) (c : Caller) → place < length old → IsCaller k c → (place_of c).who ≡ (place_of (get_or old place c)).who → AreAllCallers k old → AreAllCallers k (set old place c)
+one-on k old place c inside own same all = all-still k old (set old place c) (length-set old place c) after all where
+  after : (p : ℕ) (x : Caller) → slice_get (set old place c) p ≡ Some x → IsAfter k old p x
+  after p x there = by (eqb place p) refl (sym (slice_get-set old place c p inside) ∙ there) where
+    by : (b : Bool) → eqb place p ≡ b → cond b (Some c) (slice_get old p) ≡ Some x → IsAfter k old p x
+    by true is here =
+        let one : c ≡ x = cc in
+        let at : place ≡ p = eqb-true place p is in
+        record {
+          own = subst (IsCaller k) one own;
+          before = get_or old place c;
+          stood = subst (λ (n : ℕ). slice_get old n ≡ Some (get_or old place c)) at (slice_get-get_or old place c inside);
+          same = subst (λ (y : Caller). (place_of y).who ≡ (place_of (get_or old place c)).who) one same;
+        }
+    by false is here = record {
+      own = subst (IsCaller k) (get_or_from_slice_get old p x x here) (all.own p x (slice_get_within old p x here));
+      before = x;
+      stood = here;
+      same = refl;
+    }
+
+-- what a slice of all of a list leaves there is the slice
+pub written-back : (old new : List Caller) (n : ℕ) → length new ≡ length old → n ≡ length old → take n (new ++ drop (length new) old) ≡ new
+written-back old new n long many =
+    ap (λ (l : List Caller). take n (new ++ l)) (drop_all (length new) old (omega (arith, long)))
+    ∙ ap (λ (l : List Caller). take n l) (append-nil new) ∙ take_all n new (omega (arith, long, many))
+
+-- the caller of this number went on
+pub gone-on : (k : Shared) (old : List Caller) (place len : ℕ) (was c : Caller) → len ≡ length old → place < len → was ≡ get_or old place was → IsCaller k c → (place_of c).who ≡ (place_of was).who → AreAllCallers k old →
+    AreAllCallers k (set old place c)
+gone-on k old place len was c long within value own who all =
+    let inside : place < length old = omega (arith, long, within) in
+    let stood = get_or_from_slice_get old place was c (slice_get_read old (length old) place was refl inside value) in
+    one-on k old place c inside own (who ∙ ap (λ (x : Caller). (place_of x).who) (sym stood)) all
