@@ -4,6 +4,7 @@
 mod engine;
 mod errors;
 mod few;
+mod gate;
 mod ids;
 mod kinds;
 mod limits;
@@ -28,6 +29,7 @@ mod within;
 pub use engine::Engine;
 pub use errors::{Errno, Failed, NewRefused, NoMemory, Status};
 pub use few::{Few, MOST_FEW};
+pub use gate::{Gate, OpenGate};
 pub use ids::{Entry, Who};
 pub use kinds::{Kind, Need, same_kind};
 pub use limits::{MOST_HELD, MOST_PLAYERS};
