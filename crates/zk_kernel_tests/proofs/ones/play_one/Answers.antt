@@ -1,5 +1,5 @@
 use Rattle.std.proofs.Common.{rules}
-use Rattle.zk_kernel_tests.proofs.Whole.{gone-on}
+use Rattle.zk_kernel.proofs.Whole.{gone-on}
 use Rattle.zk_kernel_tests.proofs.ones.play_one.Goals as goal
 
 pub returns-then-by_calls : goal.returns-then-by_calls

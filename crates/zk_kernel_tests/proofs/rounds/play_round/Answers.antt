@@ -4,7 +4,7 @@ use Rattle.std.proofs.lemmas.Option.{slice_get_read, get_or_from_slice_get}
 use Rattle.zk_kernel.specs.declared.caller.Caller.{Caller}
 use Rattle.zk_kernel.specs.Callers.{place_of}
 use Rattle.zk_kernel.specs.Rests.{AreAllCallers}
-use Rattle.zk_kernel_tests.proofs.Whole.{one-on}
+use Rattle.zk_kernel.proofs.Whole.{one-on}
 use Rattle.zk_kernel_tests.proofs.rounds.play_round.Goals as goal
 
 pub returns-in_err-step : goal.returns-in_err-step
