@@ -26,6 +26,7 @@ use Rattle.zk_services.proofs.Starts.{starts-all, length-starts, numbers-starts,
 use Rattle.zk_world.specs.Ready.{IsReady, most_shown}
 use Rattle.zk_world.specs.Sound.{AreKnown, IsSound}
 use Rattle.zk_world.specs.World.{world, first}
+use Rattle.zk_world.proofs.AtWork.{at-work-first}
 use Rattle.zk_world.proofs.Fitting.{fitting-first}
 use Rattle.zk_world.proofs.Legality.{legal-first}
 use Rattle.zk_world.proofs.Within.{within-first}
@@ -79,5 +80,11 @@ known-first s (spots.LookSignal object seen) number step is = absurd (cc)
 
 -- the first world of a valid scenario is sound
 pub sound-first : (s : Content) → IsValid s → IsSound s (first s)
-sound-first s valid =
-    record { ready = ready-first s valid; as_many = first-players s; known = known-first s; legal = legal-first s; fitting = fitting-first s }
+sound-first s valid = record {
+  ready = ready-first s valid;
+  as_many = first-players s;
+  known = known-first s;
+  legal = legal-first s;
+  fitting = fitting-first s;
+  works = λ p at there. at-work-first s p (nothing_shown s.decls) at refl (first-there s p at there);
+}

@@ -72,4 +72,5 @@ sound-of-players s shown all valid as_many numbers each legal known whole unlook
   known = known;
   legal = legal;
   fitting = fitting-of s shown all numbers each known;
+  works = λ p at there. (player-at s shown all numbers each p at there).works;
 }

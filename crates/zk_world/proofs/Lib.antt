@@ -1,4 +1,5 @@
 pub mod AheadSays
+pub mod AtWork
 pub mod Beginning
 pub mod DeadPlayers
 pub mod Fitting
@@ -8,9 +9,11 @@ pub mod Joining
 pub mod Lawful
 pub mod Legality
 pub mod OpsFit
+pub mod Over
 pub mod Places
 pub mod Players
 pub mod Readiness
 pub mod Requested
 pub mod Sound
+pub mod Tending
 pub mod Within

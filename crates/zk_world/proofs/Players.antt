@@ -12,7 +12,7 @@ use Rattle.zk_worker.specs.declared.playing.Stepped.TheVariants.{Did, NotYet, En
 use Rattle.zk_worker.specs.declared.steps.Spot.{Spot}
 use Rattle.zk_worker.specs.declared.steps.Step.{Step}
 use Rattle.zk_worker.specs.declared.steps.StepReply.{StepReply}
-use Rattle.zk_worker.specs.Attempt.{IsMade, Counts}
+use Rattle.zk_worker.specs.Attempt.{reply_in, IsMade, Counts}
 use Rattle.zk_worker.specs.Checks.{next_check}
 use Rattle.zk_worker.specs.Follows.{IsFollowing}
 use Rattle.zk_worker.specs.Machines.{Machines, machines_of}
@@ -32,7 +32,9 @@ use Rattle.zk_worker.proofs.ShownSteps.{log-stepped}
 use Rattle.zk_worker.proofs.Starts.{start_at-fresh}
 use Rattle.zk_world.specs.Requests.{Request, request, request_at, IsKnownWho, RequestFits, LookFits}
 use Rattle.zk_world.specs.SoundPlayer.{IsSoundPlayer}
+use Rattle.zk_world.specs.Tending.{IsAtWork}
 use Rattle.zk_world.proofs.AheadSays.{ahead-says}
+use Rattle.zk_world.proofs.AtWork.{at-work-first, at-work-still, at-work-made}
 use Rattle.zk_world.proofs.Fitting.{look-fits, nothing-asked, request-back, start-known}
 use Rattle.zk_world.proofs.Requested.{request-between}
 
@@ -50,6 +52,7 @@ player-first s number shown at nothing is =
       known = start-known s number at is;
       asked = λ spot x there mine. absurd (nothing-asked s.decls spot x (ap (λ (h : Shown). request_at h spot) (sym nothing) ∙ there));
       sighted = subst (All (LookFits s.decls)) (sym fresh.none_made) (All-nil (LookFits s.decls));
+      works = at-work-first s number shown at nothing is;
     }
 
 -- it holds still as others' entries come
@@ -63,6 +66,7 @@ player-still alone s at old new came sound = record {
   known = sound.known;
   asked = λ spot x there mine. sound.asked spot x (request-between alone at.who.number old new spot x came there mine) mine;
   sighted = sound.sighted;
+  works = at-work-still alone s at old new came sound.works;
 }
 
 -- a player with an attempt has steps left
@@ -114,6 +118,8 @@ module _ (alone : Bool) (m : Machines) (s : Content) (at : PlayerPlace) (step : 
         asked = asked;
         sighted = subst (All (LookFits s.decls)) (sym kept.1)
             (All-push (LookFits s.decls) at.spots (spot_of step reply) sound.sighted (look-fits s.decls step reply own-request.fits));
+        works = subst (λ (x : Shown). IsAtWork s x next) (sym made.shown)
+            (at-work-made s made.found at step reply valid sound.fits ahead (subst (λ (x : Machines). reply_in x made.found at.who step ≡ Some reply) same made.replied) before.works);
       }
 
 -- it holds after an attempt that was made

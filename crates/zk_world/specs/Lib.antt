@@ -5,6 +5,8 @@ pub mod Chosen
 pub mod Legal
 pub mod Says
 pub mod Requests
+pub mod Tending
 pub mod Sound
 pub mod SoundPlayer
 pub mod Traces
+pub mod Over

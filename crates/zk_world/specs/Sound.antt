@@ -1,12 +1,14 @@
-use Rattle.std.specs.Prelude.{◌≡◌, ℕ, ◌<◌, Some, length}
+use Rattle.std.specs.Prelude.{◌≡◌, ℕ, ◌<◌, Some, length, slice_get}
 use Rattle.zk_scenario.specs.Content.{Content}
 use Rattle.zk_scenario.specs.Players.{players}
 use Rattle.zk_worker.specs.declared.steps.Spot.{Spot}
 use Rattle.zk_worker.specs.Machines.{machines_of}
+use Rattle.zk_worker.specs.Places.{PlayerPlace}
 use Rattle.zk_worker.specs.Shown.{shown_at}
 use Rattle.zk_world.specs.Legal.{IsLegalShown}
 use Rattle.zk_world.specs.Ready.{IsReady}
 use Rattle.zk_world.specs.Requests.{AreFitting}
+use Rattle.zk_world.specs.Tending.{IsAtWork}
 use Rattle.zk_world.specs.World.{World}
 
 -- each entry is of a player that is there
@@ -27,3 +29,5 @@ pub record IsSound (s : Content) (w : World) : Type 0 where
   pub legal : IsLegalShown (machines_of s) w.shown
   -- and what they asked and looked at is declared
   pub fitting : AreFitting s w
+  -- each worker works at its queue
+  pub works : (p : ℕ) (at : PlayerPlace) → slice_get w.players p ≡ Some at → IsAtWork s w.shown at

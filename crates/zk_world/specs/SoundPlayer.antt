@@ -9,6 +9,7 @@ use Rattle.zk_worker.specs.Ranges.{IsFit}
 use Rattle.zk_worker.specs.Right.{LooksRight}
 use Rattle.zk_worker.specs.Shown.{Shown, ShowsLog}
 use Rattle.zk_world.specs.Requests.{Request, request_at, IsKnownWho, RequestFits, LookFits}
+use Rattle.zk_world.specs.Tending.{IsAtWork}
 
 -- what holds of a player, its log and what is shown of it, whoever shows it and whoever else plays
 pub record IsSoundPlayer (s : Content) (shown : Shown) (at : PlayerPlace) : Type 0 where
@@ -29,3 +30,5 @@ pub record IsSoundPlayer (s : Content) (shown : Shown) (at : PlayerPlace) : Type
       (x.who ≡ at.who) × RequestFits s x
   -- and what it looked at is declared
   pub sighted : All (LookFits s.decls) at.spots
+  -- if it is the worker of a queue, it works at it
+  pub works : IsAtWork s shown at
