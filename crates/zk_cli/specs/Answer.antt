@@ -22,7 +22,7 @@ use Rattle.zk_trace.specs.declared.trace.Ending.TheVariants as endings
 use Rattle.zk_trace.specs.Text.{trace_text}
 use Rattle.zk_trace.specs.Lawful.{IsLawful}
 use Rattle.zk_replay.specs.Replay.{IsReplay}
-use Rattle.zk_replay.specs.Over.{IsOver}
+use Rattle.zk_world.specs.Over.{IsOver}
 use Rattle.zk_cli.specs.Attempts.{EachAttemptsItsCalls}
 use Rattle.zk_cli.specs.CallsMade.{EachMakesItsCalls}
 use Rattle.zk_cli.specs.Moments.{AtEachMoment, AtEachObject}

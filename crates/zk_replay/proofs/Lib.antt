@@ -1,9 +1,7 @@
 pub mod Choosing
-pub mod Endings
 pub mod InVain
 pub mod OneRun
 pub mod Rounds
 pub mod Runs
 pub mod StillRounds
 pub mod Unserved
-pub mod WorkerRuns

@@ -17,11 +17,13 @@ use Rattle.zk_trace.specs.declared.trace.Trace.{Trace}
 use Rattle.zk_trace.specs.Lawful.{IsLawful}
 use Rattle.zk_services.specs.Starts.{starts}
 use Rattle.zk_services.proofs.Starts.{starts-all}
+use Rattle.zk_world.specs.Over.{IsOver}
 use Rattle.zk_world.specs.Sound.{IsSound}
 use Rattle.zk_world.specs.Traces.{ending_at, world_trace}
 use Rattle.zk_world.specs.World.{World, first, is_spent}
 use Rattle.zk_world.proofs.Beginning.{sound-first}
 use Rattle.zk_world.proofs.Lawful.{sound-lawful, sound-halts, lawful-where}
+use Rattle.zk_world.proofs.Over.{sound-over}
 use Rattle.zk_world.proofs.Sound.{sound-stepped}
 use Rattle.zk_replay.specs.RoundRobin.{round, rounds, IsRun}
 use Rattle.zk_replay.specs.Replay.{trace_of, IsReplay}
@@ -64,3 +66,7 @@ run-lawful s w valid run =
 -- the trace of a run of a valid scenario is lawful
 pub lawful : (s : Content) (t : Trace) → IsValid s → IsReplay s t → IsLawful s t
 lawful s t valid run = subst (λ (x : Trace). IsLawful s x) (sym run.2) (run-lawful s run.0 valid run.1)
+
+-- where the trace of a run has ended, none of its admissions waits or runs
+pub over : (s : Content) (t : Trace) → IsValid s → IsReplay s t → IsOver s t
+over s t valid run = subst (IsOver s) (sym run.2) (sound-over s run.0 (run-sound s run.0 valid run.1))

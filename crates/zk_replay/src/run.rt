@@ -2,8 +2,8 @@ ghost use Rattle.std.specs.Prelude.{IfOk};
 ghost use Rattle.zk_scenario.specs.Valid.{IsValid};
 ghost use Rattle.zk_trace.specs.Form.{IsInForm};
 ghost use Rattle.zk_trace.specs.Lawful.{IsLawful};
+ghost use Rattle.zk_world.specs.Over.{IsOver};
 ghost use Rattle.zk_replay.specs.Replay.{IsReplay};
-ghost use Rattle.zk_replay.specs.Over.{IsOver};
 
 use crate::turns::play_rounds;
 use std::alloc::Global;

@@ -32,11 +32,11 @@ use Rattle.zk_world.proofs.Legality.{legal-first}
 use Rattle.zk_world.proofs.Within.{within-first}
 
 -- each player of the first world is where it starts
-pub first-there : (s : Content) (p : ℕ) (at : PlayerPlace) → slice_get (first s).players p ≡ Some at → start_at s p ≡ Some at
+first-there : (s : Content) (p : ℕ) (at : PlayerPlace) → slice_get (first s).players p ≡ Some at → start_at s p ≡ Some at
 first-there s p at is = starts-there s (length (players s.decls)) (omega arith) p at is
 
 -- the first world has all players
-pub first-players : (s : Content) → length (first s).players ≡ length (players s.decls)
+first-players : (s : Content) → length (first s).players ≡ length (players s.decls)
 first-players s = length-starts s (length (players s.decls)) (omega arith)
 
 -- the first world of a valid scenario is ready

@@ -4,13 +4,12 @@ use Rattle.zk_worker.specs.Places.{PlayerPlace}
 use Rattle.zk_trace.specs.Lawful.{IsLawful}
 use Rattle.zk_services.specs.Alone.{plain_shown}
 use Rattle.zk_world.specs.Ready.{IsReady}
+use Rattle.zk_world.specs.Over.{IsOver}
 use Rattle.zk_world.specs.Traces.{ending_at, world_trace}
 use Rattle.zk_world.specs.World.{World, world, is_spent}
 use Rattle.zk_world.proofs.Beginning.{ready-first, world-first}
-use Rattle.zk_replay.specs.Over.{IsOver}
 use Rattle.zk_replay.specs.Replay.{IsReplay}
-use Rattle.zk_replay.proofs.Endings.{over}
-use Rattle.zk_replay.proofs.Runs.{unspent-first, run-sound, run-from, replayed, lawful}
+use Rattle.zk_replay.proofs.Runs.{unspent-first, run-sound, run-from, replayed, lawful, over}
 use Rattle.zk_replay.proofs.run.replay.Goals as goal
 
 pub play_rounds-requires-clause-alone : goal.play_rounds-requires-clause-alone
