@@ -4,6 +4,7 @@ ghost use Rattle.zk_services.specs.Alone.{plain_machines, plain_shown};
 ghost use Rattle.zk_trace.specs.Ending.{lawful_ending};
 ghost use Rattle.zk_trace.specs.Form.{IsInForm};
 ghost use Rattle.zk_worker.specs.Machines.{machines_of};
+ghost use Rattle.zk_world.specs.Over.{IsOver};
 ghost use Rattle.zk_world.specs.Traces.{ending_at, world_trace, IsFaithful};
 ghost use Rattle.zk_world.specs.World.{world};
 ghost use Rattle.zk_world.specs.Sound.{IsSound};
@@ -86,6 +87,7 @@ impl Rest {
         // It is a lawful one, but for what its ending says of who could go on, and its ending is what it says itself.
         ensures faithful { IfOk result (λ trace. IsFaithful self.scenario trace) }
         ensures ending { IfOk result (λ trace. trace.ending ≡ lawful_ending self.scenario trace) }
+        ensures over { IfOk result (λ trace. IsOver self.scenario trace) }
         ensures form { IfOk result (λ trace. IsInForm self.scenario trace) }
     {
         let Rest {
