@@ -1,10 +1,10 @@
-//! The program `zk`: its words, standard input and standard output handed to the top call.
+//! The program `zk`: its words, standard input and standard output handed to the top calls.
 #![tactic(auto)]
 
 use std::process::ExitCode;
 use std::{env, io};
-use zk_base::{StdSink, StdSource};
-use zk_cli::zk_plain;
+use zk_base::{OpenGate, StdSink, StdSource};
+use zk_cli::{needs_cores, zk_plain, zk_run};
 
 /// The exit status where the program can't get its words. No top call answers it.
 const NO_WORDS: u8 = 9;
@@ -15,7 +15,12 @@ fn main(rt: HostRuntime) -> ExitCode {
     };
     let mut source = StdSource::new(rt.reader());
     let mut sink = StdSink::new(io::writer(&rt));
-    let status = zk_plain(rt.alloc(), &words, &mut source, &mut sink);
+    let status = if needs_cores(&words) {
+        let gate = OpenGate::new();
+        zk_run(&rt, rt.alloc(), &words, &mut source, &mut sink, &gate)
+    } else {
+        zk_plain(rt.alloc(), &words, &mut source, &mut sink)
+    };
     ExitCode::from(status.code())
 }
 

@@ -21,7 +21,6 @@ use Rattle.zk_trace.specs.declared.trace.Ending.{Ending}
 use Rattle.zk_trace.specs.declared.trace.Ending.TheVariants as endings
 use Rattle.zk_trace.specs.Text.{trace_text}
 use Rattle.zk_trace.specs.Lawful.{IsLawful}
-use Rattle.zk_replay.specs.Replay.{IsReplay}
 use Rattle.zk_world.specs.Over.{IsOver}
 use Rattle.zk_cli.specs.Attempts.{EachAttemptsItsCalls}
 use Rattle.zk_cli.specs.CallsMade.{EachMakesItsCalls}
@@ -34,38 +33,41 @@ use Rattle.zk_cli.specs.Refusal.{refusal_text}
 use Rattle.zk_cli.specs.Scripts.{EachEntersItsScripts}
 use Rattle.zk_cli.specs.Told.{EachTellsItsPlayer}
 
--- the input is the text of a scenario, and the output is that text and the trace of its round robin run, which ends so;
--- the trace is lawful for the scenario, its histories keep the laws at each moment, its polls keep theirs, each script is
--- entered that was to be, each publish and notify has visited its observers or was refused, each user's call was checked before
--- all else, each other call made the steps of its form, each player has played its script call by call, with what that opened,
--- and attempted what came next at each moment, each log tells what its player answered and how it stands, and where the run has
--- ended each admission has ended or was dropped
-pub record IsRun (ending : Ending) (input output : List ℕ) : Type 0 where
+-- the input is the text of a scenario, and the output is that text and a trace of it. The trace is lawful for the scenario, its
+-- histories keep the laws at each moment, its polls keep theirs, each script is entered that was to be, each publish and notify
+-- has visited its observers or was refused, each user's call was checked before all else, each other call made the steps of its
+-- form, each player has played its script call by call, with what that opened, and attempted what came next at each moment, each
+-- log tells what its player answered and how it stands, and where the run has ended each admission has ended or was dropped
+pub record IsPrinted (s : Content) (t : Trace) (input output : List ℕ) : Type 0 where
+  pub read : scenario_of input ≡ Ok s
+  pub spelled : input ≡ text_of s
+  pub lawful : IsLawful s t
+  pub laws : AtEachMoment (KeepsLaws (work_start_of s)) t.work
+  pub clock_laws : AtEachMoment KeepsClockLaws t.clock
+  pub table_laws : AtEachMoment (KeepsTableLaws (setup_of s)) t.table
+  pub sem_laws : AtEachObject KeepsSemLaws (machines_of s).sems t.sems
+  pub msgq_laws : AtEachObject KeepsMsgqLaws (machines_of s).msgqs t.msgqs
+  pub signal_laws : AtEachObject (λ start. KeepsSignalLaws) (machines_of s).signals t.signals
+  pub channel_laws : AtEachObject KeepsChannelLaws (machines_of s).chans t.chans
+  pub observer_laws : AtEachObject KeepsObserverLaws (machines_of s).observers t.observers
+  pub polls : EachKeepsPolls s t
+  pub scripts : EachEntersItsScripts s t
+  pub publishes : EachVisitsAsTold s t
+  pub checks : EachChecksFirst s t
+  pub calls : EachMakesItsCalls s t
+  pub plays : EachPlaysItsScripts s t
+  pub attempts : EachAttemptsItsCalls s t
+  pub told : EachTellsItsPlayer s t
+  pub over : IsOver s t
+  pub printed : output ≡ text_of s ++ trace_text s t
+
+-- the output is that of a run of this kind, which ended so
+pub record IsRun (Made : Content → Trace → Type 0) (ending : Ending) (input output : List ℕ) : Type 0 where
   pub scenario : Content
   pub trace : Trace
-  pub read : scenario_of input ≡ Ok scenario
-  pub spelled : input ≡ text_of scenario
-  pub run : IsReplay scenario trace
-  pub lawful : IsLawful scenario trace
-  pub laws : AtEachMoment (KeepsLaws (work_start_of scenario)) trace.work
-  pub clock_laws : AtEachMoment KeepsClockLaws trace.clock
-  pub table_laws : AtEachMoment (KeepsTableLaws (setup_of scenario)) trace.table
-  pub sem_laws : AtEachObject KeepsSemLaws (machines_of scenario).sems trace.sems
-  pub msgq_laws : AtEachObject KeepsMsgqLaws (machines_of scenario).msgqs trace.msgqs
-  pub signal_laws : AtEachObject (λ start. KeepsSignalLaws) (machines_of scenario).signals trace.signals
-  pub channel_laws : AtEachObject KeepsChannelLaws (machines_of scenario).chans trace.chans
-  pub observer_laws : AtEachObject KeepsObserverLaws (machines_of scenario).observers trace.observers
-  pub polls : EachKeepsPolls scenario trace
-  pub scripts : EachEntersItsScripts scenario trace
-  pub publishes : EachVisitsAsTold scenario trace
-  pub checks : EachChecksFirst scenario trace
-  pub calls : EachMakesItsCalls scenario trace
-  pub plays : EachPlaysItsScripts scenario trace
-  pub attempts : EachAttemptsItsCalls scenario trace
-  pub told : EachTellsItsPlayer scenario trace
-  pub over : IsOver scenario trace
+  pub made : Made scenario trace
+  pub prints : IsPrinted scenario trace input output
   pub ends : trace.ending ≡ ending
-  pub printed : output ≡ text_of scenario ++ trace_text scenario trace
 
 -- the output names the first failing line and its first reason
 abbrev pub IsRefusal : Result Content ScenarioRefused → List ℕ → Type 0
@@ -79,10 +81,10 @@ status_of endings.Ended = statuses.Success
 status_of endings.Stuck = statuses.Stuck
 status_of endings.Spent = statuses.Spent
 
--- the whole output that goes with a status, for an input
-abbrev pub IsOutput : Status → List ℕ → List ℕ → Type 0
-IsOutput statuses.Success input output = IsRun endings.Ended input output
-IsOutput statuses.Stuck input output = IsRun endings.Stuck input output
-IsOutput statuses.Spent input output = IsRun endings.Spent input output
-IsOutput statuses.Refused input output = IsRefusal (scenario_of input) output
-IsOutput status input output = ⊥
+-- the whole output of a run of this kind that goes with a status, for an input
+abbrev pub IsOutput : (Content → Trace → Type 0) → Status → List ℕ → List ℕ → Type 0
+IsOutput Made statuses.Success input output = IsRun Made endings.Ended input output
+IsOutput Made statuses.Stuck input output = IsRun Made endings.Stuck input output
+IsOutput Made statuses.Spent input output = IsRun Made endings.Spent input output
+IsOutput Made statuses.Refused input output = IsRefusal (scenario_of input) output
+IsOutput Made status input output = ⊥

@@ -1,4 +1,4 @@
-use Rattle.std.specs.Prelude.{◌≡◌, ℕ, ◌+◌, if◌then◌else◌, Option, Some, None, Result, Ok, Err, List, [], ◌∷◌, drop, codes, option_map, IfSome, ⊤}
+use Rattle.std.specs.Prelude.{◌≡◌, ℕ, ◌+◌, Bool, false, if◌then◌else◌, Option, Some, None, Result, Ok, Err, List, [], ◌∷◌, drop, codes, option_map, IfSome, ⊤}
 use Rattle.std.specs.Str.{bytes_eq}
 use Rattle.std.specs.Io.KnownBytes.{Appends, Keeps}
 use Rattle.zk_base.specs.Causes.{Rose}
@@ -10,15 +10,19 @@ use Rattle.zk_scenario.specs.declared.limits.TheConstants.{LONGEST_SCENARIO}
 use Rattle.zk_scenario.specs.declared.refused.ScenarioRefused.{ScenarioRefused}
 use Rattle.zk_scenario.specs.Grammar.{scenario_of}
 use Rattle.zk_trace.specs.declared.trace.Trace.{Trace}
+use Rattle.zk_trace.specs.Lawful.{IsLawful}
+use Rattle.zk_replay.specs.Replay.{IsReplay}
+use Rattle.zk_cores.specs.declared.run.TheConstants.{MOST_CORES}
 use Rattle.zk_cli.specs.declared.form.Form.{Form}
-use Rattle.zk_cli.specs.declared.form.Form.TheVariants.{Replay, Check, Soak}
+use Rattle.zk_cli.specs.declared.form.Form.TheVariants.{Replay, Check, Soak, Run}
 use Rattle.zk_cli.specs.declared.form.TheConstants.{LONGEST_TRACE, MOST_SOAK}
 use Rattle.zk_cli.specs.Output.{AppendsFront}
 use Rattle.zk_cli.specs.Answer.{IsOutput}
 use Rattle.zk_cli.specs.CheckAnswer.{IsTraceOf, IsCheckOutput}
 use Rattle.zk_cli.specs.SoakAnswer.{IsSoakOutput}
 
--- the form that the words ask for, if they are those of one: the word `replay` alone, or `check`, or `soak` and a number
+-- the form on one thread that the words ask for, if they are those of one: the word `replay` alone, or `check`, or `soak` and a
+-- number
 abbrev pub form_of : List (List ℕ) → Option Form
 form_of (word ∷ []) =
     if bytes_eq word (codes "replay") then Some Replay else
@@ -27,28 +31,44 @@ form_of (word ∷ number ∷ []) =
     if bytes_eq word (codes "soak") then option_map Soak (number_in 0 MOST_SOAK number) else None
 form_of words = None
 
+-- the form on cores that the words ask for, if they are those of it: the word `run` and how many cores
+abbrev pub cores_form_of : List (List ℕ) → Option Form
+cores_form_of (word ∷ number ∷ []) =
+    if bytes_eq word (codes "run") then option_map Run (number_in 1 MOST_CORES number) else None
+cores_form_of words = None
+
+-- whether the words need cores: where the first is `run`
+abbrev pub needs_cores : List (List ℕ) → Bool
+needs_cores [] = false
+needs_cores (word ∷ words) = bytes_eq word (codes "run")
+
 -- whether a form reads the input
 abbrev pub Reads : Form → Type 0
 Reads Replay = Unit {0}
 Reads Check = Unit {0}
+Reads (Run cores) = Unit {0}
 Reads (Soak number) = ⊥
 
 -- the input of a form: what the source has left, and nothing where none is read
 abbrev pub input_of : Form → Option (List ℕ) → Option (List ℕ)
 input_of Replay left = left
 input_of Check left = left
+input_of (Run cores) left = left
 input_of (Soak number) left = Some []
 
 -- the longest input of a form
 abbrev pub limit_of : Form → ℕ
 limit_of Replay = LONGEST_SCENARIO
 limit_of Check = LONGEST_TRACE
+limit_of (Run cores) = LONGEST_SCENARIO
 limit_of (Soak number) = 0
 
--- the whole output of a form that goes with a status, for an input
+-- the whole output of a form that goes with a status, for an input: of `replay` that of the round robin run, of `run` that of a
+-- lawful one
 abbrev pub IsOutputOf : Form → Status → List ℕ → List ℕ → Type 0
-IsOutputOf Replay status input output = IsOutput status input output
+IsOutputOf Replay status input output = IsOutput IsReplay status input output
 IsOutputOf Check status input output = IsCheckOutput status input output
+IsOutputOf (Run cores) status input output = IsOutput IsLawful status input output
 IsOutputOf (Soak number) status input output = IsSoakOutput number status output
 
 -- what is printed where the words are no form
@@ -76,6 +96,7 @@ HasGiven many (Some input) left = left ≡ Some (drop many input)
 abbrev pub HasReadAll : Form → Option (List ℕ) → Option (List ℕ) → Type 0
 HasReadAll Replay old new = HasGiven (limit_of Replay + 1) old new
 HasReadAll Check old new = HasGiven (limit_of Check + 1) old new
+HasReadAll (Run cores) old new = HasGiven (limit_of (Run cores) + 1) old new
 HasReadAll (Soak number) old new = new ≡ old
 
 -- the statuses of calls that printed their whole output for an input
@@ -125,6 +146,7 @@ MayEnd form input WriteFault = Unit {0}
 MayEnd form input NoMemory = Unit {0}
 MayEnd Replay input status = MayRun (scenario_of input) status
 MayEnd Check input status = MayCheck input status
+MayEnd (Run cores) input status = MayRun (scenario_of input) status
 MayEnd (Soak number) input status = MaySoak status
 
 -- how the output for an input went to the sink
@@ -137,19 +159,19 @@ pub data Answered (form : Form) (input : List ℕ) (old new : Option (List ℕ))
       Answered form input old new faults faults' WriteFault
   unmade : Keeps old new → Answered form input old new faults faults' NoMemory
 
--- how a call went
-pub data CallOutcome (words : List (List ℕ)) (left left' old new : Option (List ℕ))
+-- how a call went that asked for a form, or for none
+pub data CallOutcome (wanted : Option Form) (left left' old new : Option (List ℕ))
     (reads reads' writes writes' : ℕ) : Status → Type 0 where
-  no_form : form_of words ≡ None → Appends old new words_refused →
-      CallOutcome words left left' old new reads reads' writes writes' Words
-  no_form_cut : form_of words ≡ None → AppendsFront old new words_refused →
-      Rose writes writes' → CallOutcome words left left' old new reads reads' writes writes' WriteFault
-  unread : (form : Form) → Reads form → form_of words ≡ Some form → Rose reads reads' → Keeps old new →
-      CallOutcome words left left' old new reads reads' writes writes' ReadFault
-  no_memory : (form : Form) → form_of words ≡ Some form → Keeps old new →
-      CallOutcome words left left' old new reads reads' writes writes' NoMemory
-  printed : (form : Form) (status : Status) → form_of words ≡ Some form → IsAnswer status → HasReadAll form left left' →
+  no_form : wanted ≡ None → Appends old new words_refused →
+      CallOutcome wanted left left' old new reads reads' writes writes' Words
+  no_form_cut : wanted ≡ None → AppendsFront old new words_refused →
+      Rose writes writes' → CallOutcome wanted left left' old new reads reads' writes writes' WriteFault
+  unread : (form : Form) → Reads form → wanted ≡ Some form → Rose reads reads' → Keeps old new →
+      CallOutcome wanted left left' old new reads reads' writes writes' ReadFault
+  no_memory : (form : Form) → wanted ≡ Some form → Keeps old new →
+      CallOutcome wanted left left' old new reads reads' writes writes' NoMemory
+  printed : (form : Form) (status : Status) → wanted ≡ Some form → IsAnswer status → HasReadAll form left left' →
       Prints (input_of form left) old new (IsOutputOf form status) →
-      CallOutcome words left left' old new reads reads' writes writes' status
-  cut : (form : Form) → form_of words ≡ Some form → HasReadAll form left left' → PrintsFront form left old new →
-      Rose writes writes' → CallOutcome words left left' old new reads reads' writes writes' WriteFault
+      CallOutcome wanted left left' old new reads reads' writes writes' status
+  cut : (form : Form) → wanted ≡ Some form → HasReadAll form left left' → PrintsFront form left old new →
+      Rose writes writes' → CallOutcome wanted left left' old new reads reads' writes writes' WriteFault

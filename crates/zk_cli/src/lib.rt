@@ -1,13 +1,15 @@
-//! The program's top call, over any source and any sink.
+//! The program's top calls, over any source, any sink and any gate.
 #![tactic(auto)]
 
 mod answer;
 mod check;
+mod cores;
 mod form;
 mod input;
 mod output;
 mod soak;
 mod top;
 
-pub use form::{Form, LONGEST_TRACE};
+pub use cores::zk_run;
+pub use form::{Form, LONGEST_TRACE, needs_cores};
 pub use top::zk_plain;

@@ -1,22 +1,23 @@
-ghost use Rattle.std.specs.Prelude.{◌≡◌, ◌≢◌, ◌⊎◌, ℕ, List, Some, None, map, IfOk, IfSome, string_bytes};
+ghost use Rattle.std.specs.Prelude.{◌≡◌, ◌≢◌, ◌⊎◌, Some, None, map, IfSome, string_bytes};
 ghost use Rattle.std.specs.Io.KnownBytes.{Appends, Keeps};
 ghost use Rattle.zk_base.specs.Causes.{Rose};
 ghost use Rattle.zk_cli.specs.Output.{AppendsFront};
-ghost use Rattle.zk_cli.specs.Top.{form_of, Reads, input_of, IsOutputOf, words_refused, Prints, PrintsFront, HasReadAll, HasInput, MayEnd, Answered, CallOutcome};
+ghost use Rattle.zk_cli.specs.declared.form.Form.TheVariants.{Replay, Check};
+ghost use Rattle.zk_cli.specs.Top.{form_of, input_of, IsOutputOf, words_refused, Prints, PrintsFront, HasReadAll, HasInput, MayEnd, CallOutcome};
 
 use crate::answer::output_of;
 use crate::check::check_output;
 use crate::form::{Form, form_of, limit_of};
 use crate::input::{NoInput, read_input};
-use crate::output::write_text;
+use crate::output::{refuse_words, write_made};
 use crate::soak::soak_output;
 use std::alloc::Global;
-use zk_base::{NoMemory, Sink, Source, Status};
+use zk_base::{Sink, Source, Status};
 
 /// The program over any source and any sink. `replay` reads a scenario, plays it on one thread by round robin, and prints
 /// the scenario's text and the trace. `check` reads that again, and says whether the trace is lawful for the scenario, or at
 /// which line it isn't, and why. `soak N` plays the generated scenario of that number and checks its trace. It always
-/// returns.
+/// returns. The words of `run N` are for `zk_run`, and are refused here.
 ///
 /// The words are those behind the program's name. The whole output is made in memory and then written, piece after
 /// piece; writing takes no memory. What is said of the input and the output is said where the source and the sink tell
@@ -74,68 +75,44 @@ fn plain<S: Source, K: Sink>(
     source: &mut S,
     sink: &mut K,
 ) -> Status
-    ensures went { CallOutcome (map string_bytes words.now) (S.left source.old) (S.left source.new) (K.held sink.old) (K.held sink.new)
+    ensures went { CallOutcome (form_of (map string_bytes words.now)) (S.left source.old) (S.left source.new) (K.held sink.old) (K.held sink.new)
         (S.faults source.old) (S.faults source.new) (K.faults sink.old) (K.faults sink.new) result }
     ensures reads { result ≢ Status.ReadFault → S.faults source.new ≡ S.faults source.old }
     ensures writes { result ≢ Status.WriteFault → K.faults sink.new ≡ K.faults sink.old }
 {
     match form_of(words) {
         None => refuse_words(sink),
-        Some(Form::Replay) => over_input(alloc, Form::Replay, source, sink),
-        Some(Form::Check) => over_input(alloc, Form::Check, source, sink),
-        Some(Form::Soak(number)) => answer(alloc, Form::Soak(number), Vec::new(alloc), sink),
+        Some(Form::Replay) => answer_replay(alloc, source, sink),
+        Some(Form::Check) => answer_check(alloc, source, sink),
+        Some(Form::Soak(number)) => write_made(sink, soak_output(alloc, number)),
+        Some(Form::Run(_)) => unreachable!(),
     }
 }
 
-/// Reads the input of a form, and prints the output for it.
-fn over_input<S: Source, K: Sink>(alloc: Global, form: Form, source: &mut S, sink: &mut K) -> Status
-    requires { Reads form }
-    ensures went { (words : List (List ℕ)) → form_of words ≡ Some form →
-        CallOutcome words (S.left source.old) (S.left source.new) (K.held sink.old) (K.held sink.new)
+/// Reads the input of `replay`, and prints the output for it.
+fn answer_replay<S: Source, K: Sink>(alloc: Global, source: &mut S, sink: &mut K) -> Status
+    ensures went { CallOutcome (Some Replay) (S.left source.old) (S.left source.new) (K.held sink.old) (K.held sink.new)
         (S.faults source.old) (S.faults source.new) (K.faults sink.old) (K.faults sink.new) result }
     ensures reads { result ≢ Status.ReadFault → S.faults source.new ≡ S.faults source.old }
     ensures writes { result ≢ Status.WriteFault → K.faults sink.new ≡ K.faults sink.old }
 {
-    match read_input(alloc, source, limit_of(form)) {
-        Ok(input) => answer(alloc, form, input, sink),
+    match read_input(alloc, source, limit_of(Form::Replay)) {
+        Ok(input) => write_made(sink, output_of(alloc, input)),
         Err(NoInput::Fault) => Status::ReadFault,
         Err(NoInput::NoMemory) => Status::NoMemory,
     }
 }
 
-fn refuse_words<K: Sink>(sink: &mut K) -> Status
-    ensures refused { ((result ≡ Status.Words) × Appends (K.held sink.old) (K.held sink.new) words_refused)
-        ⊎ ((result ≡ Status.WriteFault) × AppendsFront (K.held sink.old) (K.held sink.new) words_refused
-        × Rose (K.faults sink.old) (K.faults sink.new)) }
+/// Reads the input of `check`, and prints the output for it.
+fn answer_check<S: Source, K: Sink>(alloc: Global, source: &mut S, sink: &mut K) -> Status
+    ensures went { CallOutcome (Some Check) (S.left source.old) (S.left source.new) (K.held sink.old) (K.held sink.new)
+        (S.faults source.old) (S.faults source.new) (K.faults sink.old) (K.faults sink.new) result }
+    ensures reads { result ≢ Status.ReadFault → S.faults source.new ≡ S.faults source.old }
     ensures writes { result ≢ Status.WriteFault → K.faults sink.new ≡ K.faults sink.old }
 {
-    match write_text(sink, b"refused words\n") {
-        Ok(()) => Status::Words,
-        Err(_) => Status::WriteFault,
-    }
-}
-
-/// Prints the output of a form for this input.
-fn answer<K: Sink>(alloc: Global, form: Form, input: Vec<u8>, sink: &mut K) -> Status
-    ensures answered { Answered form input.items (K.held sink.old) (K.held sink.new) (K.faults sink.old) (K.faults sink.new) result }
-    ensures writes { result ≢ Status.WriteFault → K.faults sink.new ≡ K.faults sink.old }
-{
-    let Ok((output, status)) = form_output(alloc, form, input) else {
-        return Status::NoMemory;
-    };
-    match write_text(sink, &output) {
-        Ok(()) => status,
-        Err(_) => Status::WriteFault,
-    }
-}
-
-/// The whole output of a form for this input, and the status that goes with it.
-fn form_output(alloc: Global, form: Form, input: Vec<u8>) -> Result<(Vec<u8>, Status), NoMemory>
-    ensures { IfOk result (λ made. IsOutputOf form made.1 input.items made.0.items) }
-{
-    match form {
-        Form::Replay => output_of(alloc, input),
-        Form::Check => check_output(alloc, input),
-        Form::Soak(number) => soak_output(alloc, number),
+    match read_input(alloc, source, limit_of(Form::Check)) {
+        Ok(input) => write_made(sink, check_output(alloc, input)),
+        Err(NoInput::Fault) => Status::ReadFault,
+        Err(NoInput::NoMemory) => Status::NoMemory,
     }
 }

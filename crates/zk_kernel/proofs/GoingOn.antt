@@ -62,7 +62,7 @@ module _ (m : Machines) (s : Content) (at at' : PlayerPlace) (old new : Shown) (
       (sound-stepped m s (world old players) p at (did.step, did.reply) same sound there (ahead-unspent s at did.step (first.index, first.is_there)) chose))
 
   -- whatever came of a step
-  outcome-sound : (counts counts' : Counts) (stepped : Stepped) → m ≡ machines_of s → IsSound s (world old players) → slice_get players p ≡ Some at →
+  pub outcome-sound : (counts counts' : Counts) (stepped : Stepped) → m ≡ machines_of s → IsSound s (world old players) → slice_get players p ≡ Some at →
       StepOutcome true m s at at' old new counts counts' stepped → IsSound s (world new (set players p at'))
   outcome-sound counts counts' Did same sound there outcome = made-sound counts counts' same sound there outcome
   outcome-sound counts counts' NotYet same sound there outcome = same-sound sound there outcome.unchanged outcome.none.others

@@ -51,10 +51,10 @@ one-on k old place c inside own same all = all-still k old (set old place c) (le
     }
 
 -- what a slice of all of a list leaves there is the slice
-pub written-back : (old new : List Caller) (n : ℕ) → length new ≡ length old → n ≡ length old → take n (new ++ drop (length new) old) ≡ new
-written-back old new n long many =
-    ap (λ (l : List Caller). take n (new ++ l)) (drop_all (length new) old (omega (arith, long)))
-    ∙ ap (λ (l : List Caller). take n l) (append-nil new) ∙ take_all n new (omega (arith, long, many))
+pub written-back : {A : Type 0} (old new : List A) (n : ℕ) → length new ≡ length old → n ≡ length old → take n (new ++ drop (length new) old) ≡ new
+written-back {A} old new n long many =
+    ap (λ (l : List A). take n (new ++ l)) (drop_all (length new) old (omega (arith, long)))
+    ∙ ap (λ (l : List A). take n l) (append-nil new) ∙ take_all n new (omega (arith, long, many))
 
 -- the caller of this number went on
 pub gone-on : (k : Shared) (old : List Caller) (place len : ℕ) (was c : Caller) → len ≡ length old → place < len → was ≡ get_or old place was → IsCaller k c → (place_of c).who ≡ (place_of was).who → AreAllCallers k old →

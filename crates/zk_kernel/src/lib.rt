@@ -10,6 +10,7 @@ mod close;
 mod dealing;
 mod desk;
 mod emptying;
+mod hints;
 mod joining;
 mod kernel;
 mod looking;

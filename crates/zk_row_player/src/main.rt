@@ -1,4 +1,4 @@
-//! Plays the rows of standard input, each through the top call over memory, and prints what came of each. So a further row
+//! Plays the rows of standard input, each through a top call over memory, and prints what came of each. So a further row
 //! is a few lines of `stdin` and of `stdout`, and costs no proof.
 #![tactic(auto)]
 
@@ -16,7 +16,7 @@ use std::io::{self, Read, Write};
 fn main(rt: HostRuntime) -> io::Result<()> {
     let mut rows = String::new(rt.alloc());
     rt.reader().read_to_string(&mut rows)?;
-    match answered(rt.alloc(), &rows) {
+    match answered(&rt, rt.alloc(), &rows) {
         Ok(text) => io::writer(&rt).write_all(&text),
         Err(error) => println!(rt; "{error}"),
     }

@@ -1,9 +1,11 @@
 use crate::checking::{put_checks, put_unlawful};
 use crate::kept::put_kept;
-use crate::play::{Played, play};
+use crate::play::{Played, play, play_by};
 use crate::reading::{is_read_again, put_readings};
 use crate::spelled::{put_spelled, put_times};
 use std::alloc::Global;
+use std::sync::Wait;
+use std::thread::Threads;
 use zk_base::{NoMemory, Status, SureSink, put, put_decimal};
 
 /// What is printed of these lines:
@@ -14,22 +16,29 @@ use zk_base::{NoMemory, Status, SureSink, put, put_decimal};
 ///     + PIECE        is the text with this piece behind it read? The text stays as it is
 ///     ! WORDS        plays the text by these words: the status, and what is printed behind the text
 ///     $ PIECE        plays the text: the status, and whether the output ends with this piece
+///     = WORDS        plays the text by these words: the status, and whether that prints what `replay` does
+///     ~ WORDS        plays the text by these words: the status, and what `check` says of the output
 ///     ? CHANGE       plays the text, and reads the trace changed in this way
 ///     ? check CHANGE plays the text, and checks the trace changed in this way
 ///     &              reads the trace that stands in the text: each entry, look and answer of it
 ///
 /// Each trace that is played is read and printed again, and checked. Where it isn't the same, `misread` is printed, and where
 /// it isn't said to be lawful, what is said.
-pub fn answered(alloc: Global, lines: &str) -> Result<Vec<u8>, NoMemory> {
+pub fn answered<R: Threads + Wait + Sync>(
+    rt: &R,
+    alloc: Global,
+    lines: &str,
+) -> Result<Vec<u8>, NoMemory> {
     let mut out = Vec::new(alloc);
     let mut text = Vec::new(alloc);
     for line in lines.split('\n') {
-        put_row(alloc, &mut out, &mut text, line)?;
+        put_row(rt, alloc, &mut out, &mut text, line)?;
     }
     Ok(out)
 }
 
-fn put_row(
+fn put_row<R: Threads + Wait + Sync>(
+    rt: &R,
     alloc: Global,
     out: &mut Vec<u8>,
     text: &mut Vec<u8>,
@@ -42,8 +51,10 @@ fn put_row(
         }
         [b'*', ..] => put_times(text, line.strip_prefix('*').unwrap_or("")),
         [b'+', piece @ ..] => put_reading(alloc, out, text, piece),
-        [b'!', ..] => put_play(alloc, out, text, line),
+        [b'!', ..] => put_play(rt, alloc, out, text, line),
         [b'$', piece @ ..] => put_end(alloc, out, text, piece),
+        [b'=', ..] => put_same(rt, alloc, out, text, line),
+        [b'~', ..] => put_checked(rt, alloc, out, text, line),
         [b'?', ..] => put_change(alloc, out, text, line),
         [b'&'] => put_kept(alloc, out, text),
         _ => put_line(text, line.as_bytes()),
@@ -82,9 +93,15 @@ fn said<'a>(status: Status, held: &'a [u8], text: &[u8]) -> &'a [u8] {
 }
 
 /// The status, and what is printed behind the text; all that is printed, where that doesn't begin with it.
-fn put_play(alloc: Global, out: &mut Vec<u8>, text: &[u8], line: &str) -> Result<(), NoMemory> {
+fn put_play<R: Threads + Wait + Sync>(
+    rt: &R,
+    alloc: Global,
+    out: &mut Vec<u8>,
+    text: &[u8],
+    line: &str,
+) -> Result<(), NoMemory> {
     let words = line.strip_prefix('!').unwrap_or("");
-    let Played { status, sink } = play(alloc, words, text)?;
+    let Played { status, sink } = play_by(rt, alloc, words, text)?;
     put_decimal(out, u64::from(status.code()))?;
     match sink.held().strip_prefix(text) {
         Some(behind) => {
@@ -97,6 +114,39 @@ fn put_play(alloc: Global, out: &mut Vec<u8>, text: &[u8], line: &str) -> Result
             put(out, sink.held())
         }
     }
+}
+
+/// The status, and whether these words print what `replay` does.
+fn put_same<R: Threads + Wait + Sync>(
+    rt: &R,
+    alloc: Global,
+    out: &mut Vec<u8>,
+    text: &[u8],
+    line: &str,
+) -> Result<(), NoMemory> {
+    let Played { status, sink } = play_by(rt, alloc, line.strip_prefix('=').unwrap_or(""), text)?;
+    let alone = play(alloc, " replay", text)?;
+    put_decimal(out, u64::from(status.code()))?;
+    if status == alone.status && sink.held() == alone.sink.held() {
+        put(out, b", as by replay\n")
+    } else {
+        put(out, b", not as by replay\n")
+    }
+}
+
+/// The status, and what `check` says of what these words print.
+fn put_checked<R: Threads + Wait + Sync>(
+    rt: &R,
+    alloc: Global,
+    out: &mut Vec<u8>,
+    text: &[u8],
+    line: &str,
+) -> Result<(), NoMemory> {
+    let Played { status, sink } = play_by(rt, alloc, line.strip_prefix('~').unwrap_or(""), text)?;
+    put_decimal(out, u64::from(status.code()))?;
+    put(out, b", ")?;
+    let checked = play(alloc, " check", sink.held())?;
+    put(out, checked.sink.held())
 }
 
 /// The status, and whether the output ends with this piece.

@@ -1,8 +1,10 @@
-//! Tests alone, of lines, scenarios' look-ups, players and faults: what only a test can do. Scenarios with what is printed of
+//! Tests alone, of lines, scenarios' look-ups, players, faults and cores: what only a test can do. Scenarios with what is printed of
 //! them, and traces with what is read of them, are rows of `zk_row_player`. They stand in a crate of their own since a crate that
 //! has tests is proved once more with them.
 #![tactic(auto)]
 
+#[cfg(test)]
+mod cores_tests;
 #[cfg(test)]
 mod line_tests;
 #[cfg(test)]

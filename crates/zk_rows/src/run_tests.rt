@@ -1,10 +1,12 @@
-//! Each fault of reading and writing in turn, through the top call over memory.
+//! Each fault of reading and writing in turn, through the top calls over memory.
 use crate::texts::text_of;
 use std::alloc::Global;
 use std::process::Abort;
+use std::sync::Wait;
 use std::test::Fail;
-use zk_base::{MemSink, MemSource, NoMemory, Sink, Source, Status, SureSink, SureSource};
-use zk_cli::zk_plain;
+use std::thread::Threads;
+use zk_base::{MemSink, MemSource, NoMemory, OpenGate, Sink, Source, Status, SureSink, SureSource};
+use zk_cli::{needs_cores, zk_plain, zk_run};
 
 /// Two threads, one queue, three items.
 const FRONT: &str =
@@ -20,30 +22,45 @@ const ITS_TRACE: &str =
 /// More room than its output needs.
 const ROOM: usize = 8192;
 
-/// One call of the form `replay`.
-fn status_of<S: Source, K: Sink>(
-    alloc: Global,
+/// One call with these words.
+fn status_of<R: Threads + Wait + Sync + AllocGlobal, S: Source, K: Sink>(
+    rt: &R,
+    words: &[&str],
     source: &mut S,
     sink: &mut K,
 ) -> Result<Status, NoMemory> {
-    let words = vec![in alloc; String::from_str(alloc, "replay")?]?;
-    Ok(zk_plain(alloc, &words, source, sink))
+    let alloc = rt.alloc();
+    let mut owned = Vec::new(alloc);
+    for word in words {
+        owned.push(String::from_str(alloc, word)?)?;
+    }
+    if needs_cores(&owned) {
+        let gate = OpenGate::new();
+        return Ok(zk_run(rt, alloc, &owned, source, sink, &gate));
+    }
+    Ok(zk_plain(alloc, &owned, source, sink))
 }
 
 /// The call of reading that has this number fails.
-fn read_fault<R: Abort + AllocGlobal>(rt: &R, input: Vec<u8>, call: u64) -> Result<(), NoMemory> {
+fn read_fault<R: Abort + Threads + Wait + Sync + AllocGlobal>(
+    rt: &R,
+    words: &[&str],
+    input: Vec<u8>,
+    call: u64,
+) -> Result<(), NoMemory> {
     let mut source = MemSource::new(input, 4, vec![in rt.alloc(); call]?);
     let room = Vec::with_capacity(rt.alloc(), ROOM)?;
     let mut sink = SureSink::new(room, 9);
-    let status = status_of(rt.alloc(), &mut source, &mut sink)?;
+    let status = status_of(rt, words, &mut source, &mut sink)?;
     assert_eq!(rt; status, Status::ReadFault, "{call}");
     assert!(rt; sink.held().is_empty(), "{call}");
     Ok(())
 }
 
 /// The call of writing that has this number fails, and all before it stands.
-fn write_fault<R: Abort + AllocGlobal>(
+fn write_fault<R: Abort + Threads + Wait + Sync + AllocGlobal>(
     rt: &R,
+    words: &[&str],
     input: Vec<u8>,
     wanted: &[u8],
     call: usize,
@@ -51,7 +68,7 @@ fn write_fault<R: Abort + AllocGlobal>(
     let mut source = SureSource::new(input, 100);
     let room = Vec::with_capacity(rt.alloc(), ROOM)?;
     let mut sink = MemSink::new(room, 4, vec![in rt.alloc(); call as u64]?);
-    let status = status_of(rt.alloc(), &mut source, &mut sink)?;
+    let status = status_of(rt, words, &mut source, &mut sink)?;
     assert_eq!(rt; status, Status::WriteFault, "{call}");
     assert!(rt; wanted.starts_with(sink.held()), "{call}");
     assert_eq!(rt; sink.held().len(), 4usize.saturating_mul(call), "{call}");
@@ -59,15 +76,30 @@ fn write_fault<R: Abort + AllocGlobal>(
 }
 
 /// A fault of reading prints nothing, and one of writing leaves a front.
-#[test]
-fn each_fault_is_told(rt: HostRuntime) -> Result<(), Fail> {
+fn each_fault<R: Abort + Threads + Wait + Sync + AllocGlobal>(
+    rt: &R,
+    words: &[&str],
+) -> Result<(), NoMemory> {
     let input = text_of(rt.alloc(), &[FRONT, ONE_SUBMISSION])?;
     for call in 0..input.len() as u64 / 4 + 2 {
-        read_fault(&rt, input.clone()?, call)?;
+        read_fault(rt, words, input.clone()?, call)?;
     }
     let wanted = text_of(rt.alloc(), &[FRONT, ONE_SUBMISSION, ITS_TRACE])?;
     for call in 0..wanted.len().div_ceil(4) {
-        write_fault(&rt, input.clone()?, &wanted, call)?;
+        write_fault(rt, words, input.clone()?, &wanted, call)?;
     }
+    Ok(())
+}
+
+#[test]
+fn each_fault_of_a_replay_is_told(rt: HostRuntime) -> Result<(), Fail> {
+    each_fault(&rt, &["replay"])?;
+    Ok(())
+}
+
+/// Only one order of the steps is possible, so the trace is the same.
+#[test]
+fn each_fault_of_a_run_is_told(rt: HostRuntime) -> Result<(), Fail> {
+    each_fault(&rt, &["run", "2"])?;
     Ok(())
 }

@@ -1,16 +1,20 @@
-use Rattle.std.proofs.Common.{Some, ap, sym, ◌∙◌}
-use Rattle.zk_cli.proofs.Outcomes.{Went-refused, Went-soaked}
+use Rattle.std.proofs.Common.{[], Some, ap, sym, ◌∙◌}
+use Rattle.zk_cli.specs.declared.form.Form.TheVariants.{Soak}
+use Rattle.zk_cli.proofs.Outcomes.{Went-refused, Went-soaked, Went-for, never-cores}
 use Rattle.zk_cli.proofs.top.plain.Goals as goal
 
 pub returns-in-None-clause-went : goal.returns-in-None-clause-went
 returns-in-None-clause-went g c = Went-refused _ _ _ _ _ _ _ _ _ _ (sym c.form_of.ensures ∙ c.in-None.is) c.refuse_words.ensures.refused
 
 pub returns-in-Some-Replay-clause-went : goal.returns-in-Some-Replay-clause-went
-returns-in-Some-Replay-clause-went g c = c.over_input.ensures.went _ (sym c.form_of.ensures ∙ c.in-Some-Replay.is ∙ ap Some c.in-Some-Replay.field-0-is)
+returns-in-Some-Replay-clause-went g c =
+    Went-for _ _ _ _ _ _ _ _ _ _ _ (sym c.form_of.ensures ∙ c.in-Some-Replay.is ∙ ap Some c.in-Some-Replay.field-0-is) c.answer_replay.ensures.went
 
 pub returns-in-Some-Check-clause-went : goal.returns-in-Some-Check-clause-went
-returns-in-Some-Check-clause-went g c = c.over_input-in-Some-Check.ensures.went _ (sym c.form_of.ensures ∙ c.in-Some-Check.is ∙ ap Some c.in-Some-Check.field-0-is)
+returns-in-Some-Check-clause-went g c =
+    Went-for _ _ _ _ _ _ _ _ _ _ _ (sym c.form_of.ensures ∙ c.in-Some-Check.is ∙ ap Some c.in-Some-Check.field-0-is) c.answer_check.ensures.went
 
 pub returns-in-Some-Soak-clause-went : goal.returns-in-Some-Soak-clause-went
 returns-in-Some-Soak-clause-went g c =
-    Went-soaked _ _ _ _ _ _ _ _ c.in-Some-Soak.number _ (sym c.form_of.ensures ∙ c.in-Some-Soak.is ∙ ap Some c.in-Some-Soak.field-0-is) c.answer.ensures.answered
+    Went-soaked _ _ _ _ _ _ _ _ c.in-Some-Soak.number [] (sym c.form_of.ensures ∙ c.in-Some-Soak.is ∙ ap Some c.in-Some-Soak.field-0-is)
+    (c.write_made.ensures.answered (Soak c.in-Some-Soak.number) [] c.soak_output.ensures)

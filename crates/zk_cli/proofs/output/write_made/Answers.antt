@@ -3,21 +3,23 @@ use Rattle.std.specs.Io.KnownBytes.{Appends}
 use Rattle.zk_cli.specs.Output.{AppendsFront}
 use Rattle.zk_cli.specs.Top.{answered, cut_short, unmade}
 use Rattle.zk_cli.proofs.Outcomes.{Keeps-same}
-use Rattle.zk_cli.proofs.top.answer.Goals as goal
+use Rattle.zk_cli.proofs.output.write_made.Goals as goal
 
 pub returns-in_default-clause-answered : goal.returns-in_default-clause-answered
-returns-in_default-clause-answered g c = unmade (Keeps-same (g.K.Sink.held c.args.sink.now))
+returns-in_default-clause-answered g c = λ form input made. unmade (Keeps-same (g.K.Sink.held c.args.sink.now))
 
 pub returns-in-Ok-write_text-clause-answered : goal.returns-in-Ok-write_text-clause-answered
-returns-in-Ok-write_text-clause-answered g c =
+returns-in-Ok-write_text-clause-answered g c = λ form input made.
     let old = g.K.Sink.held c.args.sink.now in
     let new = g.K.Sink.held c.write_text.new.sink in
-    answered c.in-Ok.status c.in-Ok.output.items c.in-Ok.ensures
+    let is = rw c.in-Ok.is at made in
+    answered c.in-Ok.status c.in-Ok.output.items is
     (subst (λ (text : List ℕ). Appends old new text) c.deref.ensures.value c.in-Ok-write_text.ensures.whole)
 
 pub returns-clause-answered : goal.returns-clause-answered
-returns-clause-answered g c =
+returns-clause-answered g c = λ form input made.
     let old = g.K.Sink.held c.args.sink.now in
     let new = g.K.Sink.held c.write_text.new.sink in
-    cut_short c.in-Ok.status c.in-Ok.output.items c.in-Ok.ensures
+    let is = rw c.in-Ok.is at made in
+    cut_short c.in-Ok.status c.in-Ok.output.items is
     (subst (λ (text : List ℕ). AppendsFront old new text) c.deref.ensures.value c.in-Err.ensures.front) c.in-Err.ensures.cause.2

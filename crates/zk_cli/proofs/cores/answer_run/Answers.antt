@@ -1,0 +1,19 @@
+use Rattle.std.proofs.Common.{Some, refl}
+use Rattle.zk_cli.specs.declared.form.Form.TheVariants.{Run}
+use Rattle.zk_cli.specs.Top.{unread, no_memory}
+use Rattle.zk_cli.proofs.Outcomes.{Keeps-same, Went-answered}
+use Rattle.zk_cli.proofs.cores.answer_run.Goals as goal
+
+pub returns-in-Ok-clause-went : goal.returns-in-Ok-clause-went
+returns-in-Ok-clause-went g c =
+    let has = rw c.limit_of.ensures at c.in-Ok.ensures.bytes in
+    Went-answered (Some (Run c.args.cores)) _ _ _ _ _ _ _ _ _ (Run c.args.cores) tt c.in-Ok.input.items refl has
+    (c.write_made.ensures.answered (Run c.args.cores) c.in-Ok.input.items c.cores_output.ensures.output)
+
+pub returns-in-Err-Fault-clause-went : goal.returns-in-Err-Fault-clause-went
+returns-in-Err-Fault-clause-went g c =
+    let rose = rw c.in-Err-Fault.field-0-is at c.in-Err-Fault.ensures.fault in
+    unread (Run c.args.cores) tt refl rose (Keeps-same (g.K.Sink.held c.args.sink.now))
+
+pub returns-in-Err-NoMemory-clause-went : goal.returns-in-Err-NoMemory-clause-went
+returns-in-Err-NoMemory-clause-went g c = no_memory (Run c.args.cores) refl (Keeps-same (g.K.Sink.held c.args.sink.now))

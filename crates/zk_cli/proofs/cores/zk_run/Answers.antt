@@ -1,0 +1,48 @@
+use Rattle.zk_base.specs.declared.errors.Status.TheVariants.{Success, Stuck, Spent, Refused, Unlawful}
+use Rattle.zk_cli.proofs.Outcomes.{Went-prints, Went-words, Went-no_form, Went-complete, Went-read_fault, Went-write_fault, Went-nothing, Went-front, Went-words_front, Went-read}
+use Rattle.zk_cli.proofs.cores.zk_run.Goals as goal
+
+pub returns-clause-success : goal.returns-clause-success
+returns-clause-success g c = λ form asked. Went-prints _ _ _ _ _ _ _ _ _ form _ Success c.run.ensures.went asked tt
+
+pub returns-clause-stuck : goal.returns-clause-stuck
+returns-clause-stuck g c = λ form asked. Went-prints _ _ _ _ _ _ _ _ _ form _ Stuck c.run.ensures.went asked tt
+
+pub returns-clause-spent : goal.returns-clause-spent
+returns-clause-spent g c = λ form asked. Went-prints _ _ _ _ _ _ _ _ _ form _ Spent c.run.ensures.went asked tt
+
+pub returns-clause-refused : goal.returns-clause-refused
+returns-clause-refused g c = λ form asked. Went-prints _ _ _ _ _ _ _ _ _ form _ Refused c.run.ensures.went asked tt
+
+pub returns-clause-unlawful : goal.returns-clause-unlawful
+returns-clause-unlawful g c = λ form asked. Went-prints _ _ _ _ _ _ _ _ _ form _ Unlawful c.run.ensures.went asked tt
+
+pub returns-clause-words : goal.returns-clause-words
+returns-clause-words g c = λ same. (Went-words _ _ _ _ _ _ _ _ _ _ c.run.ensures.went same).1
+
+pub returns-clause-a_form : goal.returns-clause-a_form
+returns-clause-a_form g c = λ same. (Went-words _ _ _ _ _ _ _ _ _ _ c.run.ensures.went same).0
+
+pub returns-clause-no_form : goal.returns-clause-no_form
+returns-clause-no_form g c = Went-no_form _ _ _ _ _ _ _ _ _ _ c.run.ensures.went
+
+pub returns-clause-complete : goal.returns-clause-complete
+returns-clause-complete g c = λ form. Went-complete _ _ _ _ _ _ _ _ _ form _ c.run.ensures.went
+
+pub returns-clause-read_fault : goal.returns-clause-read_fault
+returns-clause-read_fault g c = Went-read_fault _ _ _ _ _ _ _ _ _ _ c.run.ensures.went
+
+pub returns-clause-write_fault : goal.returns-clause-write_fault
+returns-clause-write_fault g c = Went-write_fault _ _ _ _ _ _ _ _ _ _ c.run.ensures.went
+
+pub returns-clause-nothing : goal.returns-clause-nothing
+returns-clause-nothing g c = Went-nothing _ _ _ _ _ _ _ _ _ _ c.run.ensures.went
+
+pub returns-clause-front : goal.returns-clause-front
+returns-clause-front g c = λ form. Went-front _ _ _ _ _ _ _ _ _ form _ c.run.ensures.went
+
+pub returns-clause-words_front : goal.returns-clause-words_front
+returns-clause-words_front g c = Went-words_front _ _ _ _ _ _ _ _ _ _ c.run.ensures.went
+
+pub returns-clause-read : goal.returns-clause-read
+returns-clause-read g c = λ form. Went-read _ _ _ _ _ _ _ _ _ form _ c.run.ensures.went

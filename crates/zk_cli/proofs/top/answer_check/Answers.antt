@@ -1,0 +1,19 @@
+use Rattle.std.proofs.Common.{Some, refl}
+use Rattle.zk_cli.specs.declared.form.Form.TheVariants.{Check}
+use Rattle.zk_cli.specs.Top.{unread, no_memory}
+use Rattle.zk_cli.proofs.Outcomes.{Keeps-same, Went-answered}
+use Rattle.zk_cli.proofs.top.answer_check.Goals as goal
+
+pub returns-in-Ok-clause-went : goal.returns-in-Ok-clause-went
+returns-in-Ok-clause-went g c =
+    let has = rw c.limit_of.ensures at c.in-Ok.ensures.bytes in
+    Went-answered (Some Check) _ _ _ _ _ _ _ _ _ Check tt c.in-Ok.input.items refl has
+    (c.write_made.ensures.answered Check c.in-Ok.input.items c.check_output.ensures)
+
+pub returns-in-Err-Fault-clause-went : goal.returns-in-Err-Fault-clause-went
+returns-in-Err-Fault-clause-went g c =
+    let rose = rw c.in-Err-Fault.field-0-is at c.in-Err-Fault.ensures.fault in
+    unread Check tt refl rose (Keeps-same (g.K.Sink.held c.args.sink.now))
+
+pub returns-in-Err-NoMemory-clause-went : goal.returns-in-Err-NoMemory-clause-went
+returns-in-Err-NoMemory-clause-went g c = no_memory Check refl (Keeps-same (g.K.Sink.held c.args.sink.now))

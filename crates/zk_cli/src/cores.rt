@@ -1,0 +1,111 @@
+ghost use Rattle.std.specs.Prelude.{◌≡◌, ◌≢◌, ◌⊎◌, ◌≤◌, Some, None, map, IfSome, string_bytes};
+ghost use Rattle.std.specs.Io.KnownBytes.{Appends, Keeps};
+ghost use Rattle.zk_base.specs.Causes.{Rose};
+ghost use Rattle.zk_cli.specs.Output.{AppendsFront};
+ghost use Rattle.zk_cli.specs.declared.form.Form.TheVariants.{Run};
+ghost use Rattle.zk_cli.specs.Top.{cores_form_of, input_of, IsOutputOf, words_refused, Prints, PrintsFront, HasReadAll, HasInput, MayEnd, CallOutcome};
+
+use crate::answer::cores_output;
+use crate::form::{Form, cores_of, limit_of};
+use crate::input::{NoInput, read_input};
+use crate::output::{refuse_words, write_made};
+use std::alloc::Global;
+use std::sync::Wait;
+use std::thread::Threads;
+use zk_base::{Gate, Sink, Source, Status};
+
+/// The program's form `run N` over any source, any sink and any gate: it reads a scenario, plays it on N cores, from 1 to 16, and
+/// prints the scenario's text and the trace. All other words are refused.
+///
+/// The trace is a lawful one, however the cores interleave. Nothing is claimed of which one it is, nor that it returns, since a
+/// core may wait for a turn. Each core asks the gate each time before it plays one of its players. What is said of the input and
+/// the output is said where the source and the sink tell their bytes.
+pub fn zk_run<R: Threads + Wait + Sync, S: Source, K: Sink, G: Gate + Sync>(
+    rt: &R,
+    alloc: Global,
+    words: &[String],
+    source: &mut S,
+    sink: &mut K,
+    gate: &G,
+) -> Status
+    // What each status that prints says of the input and the output.
+    ensures success { (form : Form) → cores_form_of (map string_bytes words.now) ≡ Some form → result ≡ Status.Success →
+        Prints (input_of form (S.left source.old)) (K.held sink.old) (K.held sink.new) (IsOutputOf form Status.Success) }
+    ensures stuck { (form : Form) → cores_form_of (map string_bytes words.now) ≡ Some form → result ≡ Status.Stuck →
+        Prints (input_of form (S.left source.old)) (K.held sink.old) (K.held sink.new) (IsOutputOf form Status.Stuck) }
+    ensures spent { (form : Form) → cores_form_of (map string_bytes words.now) ≡ Some form → result ≡ Status.Spent →
+        Prints (input_of form (S.left source.old)) (K.held sink.old) (K.held sink.new) (IsOutputOf form Status.Spent) }
+    ensures unlawful { (form : Form) → cores_form_of (map string_bytes words.now) ≡ Some form → result ≡ Status.Unlawful →
+        Prints (input_of form (S.left source.old)) (K.held sink.old) (K.held sink.new) (IsOutputOf form Status.Unlawful) }
+    ensures refused { (form : Form) → cores_form_of (map string_bytes words.now) ≡ Some form → result ≡ Status.Refused →
+        Prints (input_of form (S.left source.old)) (K.held sink.old) (K.held sink.new) (IsOutputOf form Status.Refused) }
+    ensures words { result ≡ Status.Words → Appends (K.held sink.old) (K.held sink.new) words_refused }
+
+    // When each status comes.
+    ensures a_form { result ≡ Status.Words → cores_form_of (map string_bytes words.now) ≡ None }
+    ensures no_form { cores_form_of (map string_bytes words.now) ≡ None →
+        (result ≡ Status.Words) ⊎ (result ≡ Status.WriteFault) }
+    ensures complete { (form : Form) → cores_form_of (map string_bytes words.now) ≡ Some form →
+        IfSome (input_of form (S.left source.old)) (λ input. MayEnd form input result) }
+    ensures read_fault { result ≡ Status.ReadFault → Rose (S.faults source.old) (S.faults source.new) }
+    ensures write_fault { result ≡ Status.WriteFault → Rose (K.faults sink.old) (K.faults sink.new) }
+
+    // Each count of faults stays but for its own status.
+    ensures reads { result ≢ Status.ReadFault → S.faults source.new ≡ S.faults source.old }
+    ensures writes { result ≢ Status.WriteFault → K.faults sink.new ≡ K.faults sink.old }
+
+    // Where nothing, or not all, was written.
+    ensures nothing { (result ≡ Status.ReadFault) ⊎ (result ≡ Status.NoMemory) →
+        Keeps (K.held sink.old) (K.held sink.new) }
+    ensures front { (form : Form) → cores_form_of (map string_bytes words.now) ≡ Some form → result ≡ Status.WriteFault →
+        PrintsFront form (S.left source.old) (K.held sink.old) (K.held sink.new) }
+    ensures words_front { cores_form_of (map string_bytes words.now) ≡ None → result ≡ Status.WriteFault →
+        AppendsFront (K.held sink.old) (K.held sink.new) words_refused }
+
+    // Where the input was read to its end, or to one byte above the form's limit.
+    ensures read { (form : Form) → cores_form_of (map string_bytes words.now) ≡ Some form → HasInput result →
+        HasReadAll form (S.left source.old) (S.left source.new) }
+{
+    run(rt, alloc, words, source, sink, gate)
+}
+
+fn run<R: Threads + Wait + Sync, S: Source, K: Sink, G: Gate + Sync>(
+    rt: &R,
+    alloc: Global,
+    words: &[String],
+    source: &mut S,
+    sink: &mut K,
+    gate: &G,
+) -> Status
+    ensures went { CallOutcome (cores_form_of (map string_bytes words.now)) (S.left source.old) (S.left source.new) (K.held sink.old) (K.held sink.new)
+        (S.faults source.old) (S.faults source.new) (K.faults sink.old) (K.faults sink.new) result }
+    ensures reads { result ≢ Status.ReadFault → S.faults source.new ≡ S.faults source.old }
+    ensures writes { result ≢ Status.WriteFault → K.faults sink.new ≡ K.faults sink.old }
+{
+    match cores_of(words) {
+        None => refuse_words(sink),
+        Some(cores) => answer_run(rt, alloc, cores, source, sink, gate),
+    }
+}
+
+/// Reads the input of `run` on so many cores, and prints the output for it.
+fn answer_run<R: Threads + Wait + Sync, S: Source, K: Sink, G: Gate + Sync>(
+    rt: &R,
+    alloc: Global,
+    cores: u32,
+    source: &mut S,
+    sink: &mut K,
+    gate: &G,
+) -> Status
+    requires cores { 1 ≤ cores }
+    ensures went { CallOutcome (Some (Run cores)) (S.left source.old) (S.left source.new) (K.held sink.old) (K.held sink.new)
+        (S.faults source.old) (S.faults source.new) (K.faults sink.old) (K.faults sink.new) result }
+    ensures reads { result ≢ Status.ReadFault → S.faults source.new ≡ S.faults source.old }
+    ensures writes { result ≢ Status.WriteFault → K.faults sink.new ≡ K.faults sink.old }
+{
+    match read_input(alloc, source, limit_of(Form::Run(cores))) {
+        Ok(input) => write_made(sink, cores_output(rt, alloc, input, cores, gate)),
+        Err(NoInput::Fault) => Status::ReadFault,
+        Err(NoInput::NoMemory) => Status::NoMemory,
+    }
+}

@@ -1,0 +1,4 @@
+pub mod Rows
+pub mod Crossing
+pub mod Dealing
+pub mod Finishing

@@ -1,0 +1,107 @@
+//! Cores whose order a gate forces: two of them play at once, and the trace is the one that they made.
+use crate::texts::text_of;
+use std::alloc::Global;
+use std::hint;
+use std::sync::Wait;
+use std::sync::atomic::AtomicU64;
+use std::sync::atomic::Ordering::SeqCst;
+use std::test::Fail;
+use std::thread::Threads;
+use zk_base::{Gate, NoMemory, Sink, Status, SureSink, SureSource};
+use zk_cli::zk_run;
+
+/// Two threads that each give a semaphore and ask for its count.
+const GIVES: &str =
+    "zk 1\nthread t0 0 super\nthread t1 0 super\nsem s0 0 10\nscript t0\ngive s0\ncount s0\nend\nscript t1\ngive s0\n\
+     count s0\nend\n";
+
+/// What stands in the trace where the second player is through before the first begins.
+const SECOND_FIRST: &str =
+    "service s0\nt1.0 give = ok\nt1.1 count = 1\nt0.0 give = ok\nt0.1 count = 2\n";
+
+/// A gate is held for so many turns at the most.
+const MOST_TURNS: u64 = 20_000_000;
+
+/// More room than the output needs.
+const ROOM: usize = 8192;
+
+/// Holds the first pass of core 1 until core 0 has asked for its first, and that until core 1 has asked for its third.
+struct HeldGate {
+    asked: [AtomicU64; 2],
+    // How many waits were given up.
+    given_up: AtomicU64,
+}
+
+impl HeldGate {
+    fn new() -> HeldGate {
+        HeldGate {
+            asked: [AtomicU64::new(0), AtomicU64::new(0)],
+            given_up: AtomicU64::new(0),
+        }
+    }
+
+    /// Waits until this core has asked so often.
+    fn hold(&self, core: usize, passes: u64) {
+        for _ in 0..MOST_TURNS {
+            if self.asked[core].load(SeqCst) >= passes {
+                return;
+            }
+            hint::spin_loop();
+        }
+        self.given_up.fetch_add(1, SeqCst);
+    }
+}
+
+impl Gate for HeldGate {
+    fn pass(&self, core: u32, step: u64) {
+        match core {
+            0 => {
+                self.asked[0].fetch_add(1, SeqCst);
+                if step == 0 {
+                    self.hold(1, 3);
+                }
+            }
+            1 => {
+                self.asked[1].fetch_add(1, SeqCst);
+                if step == 0 {
+                    self.hold(0, 1);
+                }
+            }
+            _ => {}
+        }
+    }
+}
+
+/// What two cores print of the scenario behind this gate, if they print a whole trace.
+fn printed<R: Threads + Wait + Sync>(
+    rt: &R,
+    alloc: Global,
+    gate: &HeldGate,
+) -> Result<Option<SureSink>, NoMemory> {
+    let words = vec![in alloc;
+        String::from_str(alloc, "run")?,
+        String::from_str(alloc, "2")?,
+    ]?;
+    let mut source = SureSource::new(text_of(alloc, &[GIVES])?, 100);
+    let mut sink = SureSink::new(Vec::with_capacity(alloc, ROOM)?, 100);
+    let status = zk_run(rt, alloc, &words, &mut source, &mut sink, gate);
+    Ok((status == Status::Success).then_some(sink))
+}
+
+/// Whether a text has this part.
+fn has(text: &[u8], part: &[u8]) -> bool {
+    text.windows(part.len()).any(|window| window == part)
+}
+
+/// A run that played all players on one thread would give the waits up, and one that printed the round robin run's trace would
+/// print another order.
+#[test]
+fn gate_forces_an_order(rt: HostRuntime) -> Result<(), Fail> {
+    let gate = HeldGate::new();
+    let Some(sink) = printed(&rt, rt.alloc(), &gate)? else {
+        return Err(Fail::from("no trace"));
+    };
+    assert_eq!(rt; gate.given_up.load(SeqCst), 0);
+    assert!(rt; has(sink.held(), SECOND_FIRST.as_bytes()));
+    Ok(())
+}
