@@ -15,9 +15,10 @@ const GIVES: &str =
     "zk 1\nthread t0 0 super\nthread t1 0 super\nsem s0 0 10\nscript t0\ngive s0\ncount s0\nend\nscript t1\ngive s0\n\
      count s0\nend\n";
 
-/// What stands in the trace where the second player is through before the first begins.
+/// The trace where the second player is through before the first begins. By round robin both counts are answered 2.
 const SECOND_FIRST: &str =
-    "service s0\nt1.0 give = ok\nt1.1 count = 1\nt0.0 give = ok\nt0.1 count = 2\n";
+    "zt 1\nended\nservice s0\nt1.0 give = ok\nt1.1 count = 1\nt0.0 give = ok\nt0.1 count = 2\n\
+     player t0 done\n0 give = 0\n1 count = 2\nplayer t1 done\n0 give = 0\n1 count = 1\n";
 
 /// A gate is held for so many turns at the most.
 const MOST_TURNS: u64 = 20_000_000;
@@ -26,8 +27,10 @@ const MOST_TURNS: u64 = 20_000_000;
 const ROOM: usize = 8192;
 
 /// Holds the first pass of core 1 until core 0 has asked for its first, and that until core 1 has asked for its third.
+#[derive(Drop)]
 struct HeldGate {
-    asked: [AtomicU64; 2],
+    first: AtomicU64,
+    second: AtomicU64,
     // How many waits were given up.
     given_up: AtomicU64,
 }
@@ -35,15 +38,16 @@ struct HeldGate {
 impl HeldGate {
     fn new() -> HeldGate {
         HeldGate {
-            asked: [AtomicU64::new(0), AtomicU64::new(0)],
+            first: AtomicU64::new(0),
+            second: AtomicU64::new(0),
             given_up: AtomicU64::new(0),
         }
     }
 
-    /// Waits until this core has asked so often.
-    fn hold(&self, core: usize, passes: u64) {
+    /// Waits until a core has asked so often.
+    fn hold(&self, asked: &AtomicU64, passes: u64) {
         for _ in 0..MOST_TURNS {
-            if self.asked[core].load(SeqCst) >= passes {
+            if asked.load(SeqCst) >= passes {
                 return;
             }
             hint::spin_loop();
@@ -54,20 +58,13 @@ impl HeldGate {
 
 impl Gate for HeldGate {
     fn pass(&self, core: u32, step: u64) {
-        match core {
-            0 => {
-                self.asked[0].fetch_add(1, SeqCst);
-                if step == 0 {
-                    self.hold(1, 3);
-                }
-            }
-            1 => {
-                self.asked[1].fetch_add(1, SeqCst);
-                if step == 0 {
-                    self.hold(0, 1);
-                }
-            }
-            _ => {}
+        let (own, other, passes) = match core {
+            0 => (&self.first, &self.second, 3),
+            _ => (&self.second, &self.first, 1),
+        };
+        own.fetch_add(1, SeqCst);
+        if step == 0 {
+            self.hold(other, passes);
         }
     }
 }
@@ -88,11 +85,6 @@ fn printed<R: Threads + Wait + Sync>(
     Ok((status == Status::Success).then_some(sink))
 }
 
-/// Whether a text has this part.
-fn has(text: &[u8], part: &[u8]) -> bool {
-    text.windows(part.len()).any(|window| window == part)
-}
-
 /// A run that played all players on one thread would give the waits up, and one that printed the round robin run's trace would
 /// print another order.
 #[test]
@@ -102,6 +94,7 @@ fn gate_forces_an_order(rt: HostRuntime) -> Result<(), Fail> {
         return Err(Fail::from("no trace"));
     };
     assert_eq!(rt; gate.given_up.load(SeqCst), 0);
-    assert!(rt; has(sink.held(), SECOND_FIRST.as_bytes()));
+    let wanted = text_of(rt.alloc(), &[GIVES, SECOND_FIRST])?;
+    assert!(rt; sink.held() == wanted.as_slice());
     Ok(())
 }
