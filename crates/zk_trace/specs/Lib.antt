@@ -32,7 +32,6 @@ pub mod AnswerRead
 pub mod Looks
 pub mod Looked
 pub mod Text
-pub use Rattle.zk_base.specs.Fronts
 pub mod Shown
 pub mod Place
 pub mod History

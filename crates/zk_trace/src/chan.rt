@@ -7,6 +7,7 @@ use crate::sizes::Sizes;
 use crate::spelled::Spelled;
 use zk_base::{Errno, NoMemory};
 use zk_model_bus::{ChanOp, ChanReply};
+use zk_paper::Paper;
 use zk_scenario::Scenario;
 
 /// The verbs of a channel's operations.
@@ -100,7 +101,7 @@ pub fn reply_parts(reply: &ChanReply) -> PartList<'_>
 impl Spelled for ChanOp {
     ghost words = { op_words };
 
-    fn put_words(&self, out: &mut Vec<u8>, scenario: &Scenario) -> Result<(), NoMemory> {
+    fn put_words(&self, out: &mut Paper, scenario: &Scenario) -> Result<(), NoMemory> {
         let (verb, parts) = said_of(self);
         put_said(out, scenario, verb_word(verb), &parts)
     }
@@ -109,7 +110,7 @@ impl Spelled for ChanOp {
 impl Spelled for ChanReply {
     ghost words = { reply_words };
 
-    fn put_words(&self, out: &mut Vec<u8>, scenario: &Scenario) -> Result<(), NoMemory> {
+    fn put_words(&self, out: &mut Paper, scenario: &Scenario) -> Result<(), NoMemory> {
         put_parts(out, scenario, b' ', &reply_parts(self))
     }
 }

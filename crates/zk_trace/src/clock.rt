@@ -7,6 +7,7 @@ use crate::sizes::Sizes;
 use crate::spelled::Spelled;
 use zk_base::NoMemory;
 use zk_model_wait::{ClockOp, ClockReply};
+use zk_paper::Paper;
 use zk_scenario::Scenario;
 
 /// The verbs of the clock's operations.
@@ -56,7 +57,7 @@ pub fn reply_parts(reply: ClockReply) -> PartList<'static>
 impl Spelled for ClockOp {
     ghost words = { op_words };
 
-    fn put_words(&self, out: &mut Vec<u8>, scenario: &Scenario) -> Result<(), NoMemory> {
+    fn put_words(&self, out: &mut Paper, scenario: &Scenario) -> Result<(), NoMemory> {
         let (verb, parts) = said_of(*self);
         put_said(out, scenario, verb_word(verb), &parts)
     }
@@ -65,7 +66,7 @@ impl Spelled for ClockOp {
 impl Spelled for ClockReply {
     ghost words = { reply_words };
 
-    fn put_words(&self, out: &mut Vec<u8>, scenario: &Scenario) -> Result<(), NoMemory> {
+    fn put_words(&self, out: &mut Paper, scenario: &Scenario) -> Result<(), NoMemory> {
         put_parts(out, scenario, b' ', &reply_parts(*self))
     }
 }

@@ -1,12 +1,12 @@
-ghost use Rattle.std.specs.Prelude.{◌≡◌, ◌++◌, ◌==◌, MatchOption, OnOk, OnErr};
+ghost use Rattle.std.specs.Prelude.{◌≡◌, ◌++◌, ◌==◌, MatchOption, OnOk};
 ghost use Rattle.std.specs.Int.RustNames.{bit_and};
 ghost use Rattle.std.specs.Str.{bytes_eq};
 ghost use Rattle.zk_trace.specs.Fields.{flags_of};
-ghost use Rattle.zk_trace.specs.Fronts.{StaysInFront};
 ghost use Rattle.zk_trace.specs.Letters.{BeginsOtherwise, GoesOn};
 ghost use Rattle.zk_trace.specs.Words.{flag_letter, flag_letters, flags_word};
 
-use zk_base::{NoMemory, put};
+use zk_base::NoMemory;
+use zk_paper::Paper;
 
 /// A busy flag, and its letter.
 type Flag = (u8, &'static [u8]);
@@ -30,19 +30,19 @@ const FLUSHING: Flag = (16, b"f");
 const NO_FLAG: &[u8] = b"-";
 
 /// Appends the letters of the busy flags, or a dash.
-pub fn put_flags(out: &mut Vec<u8>, flags: u8) -> Result<(), NoMemory>
-    ensures text { OnOk result (out.new.items ≡ out.old.items ++ flags_word flags) }
-    ensures kept { OnErr result (StaysInFront out.old.items out.new.items) }
+pub fn put_flags(out: &mut Paper, flags: u8) -> Result<(), NoMemory>
+    ensures text { OnOk result (out.new.put ≡ out.old.put ++ flags_word flags) }
+    ensures front { out.new.front ≡ out.old.front }
 {
     if flags == 0 {
-        return put(out, NO_FLAG);
+        return out.put(NO_FLAG);
     }
     put_letters(out, flags)
 }
 
-fn put_letters(out: &mut Vec<u8>, flags: u8) -> Result<(), NoMemory>
-    ensures text { OnOk result (out.new.items ≡ out.old.items ++ flag_letters flags) }
-    ensures kept { OnErr result (StaysInFront out.old.items out.new.items) }
+fn put_letters(out: &mut Paper, flags: u8) -> Result<(), NoMemory>
+    ensures text { OnOk result (out.new.put ≡ out.old.put ++ flag_letters flags) }
+    ensures front { out.new.front ≡ out.old.front }
 {
     put_letter(out, flags, RUNNING)?;
     put_letter(out, flags, CANCELLING)?;
@@ -51,14 +51,14 @@ fn put_letters(out: &mut Vec<u8>, flags: u8) -> Result<(), NoMemory>
     put_letter(out, flags, FLUSHING)
 }
 
-fn put_letter(out: &mut Vec<u8>, flags: u8, flag: Flag) -> Result<(), NoMemory>
-    ensures text { OnOk result (out.new.items ≡ out.old.items ++ flag_letter flags flag.entry.0 flag.entry.1.now) }
-    ensures kept { OnErr result (StaysInFront out.old.items out.new.items) }
+fn put_letter(out: &mut Paper, flags: u8, flag: Flag) -> Result<(), NoMemory>
+    ensures text { OnOk result (out.new.put ≡ out.old.put ++ flag_letter flags flag.entry.0 flag.entry.1.now) }
+    ensures front { out.new.front ≡ out.old.front }
 {
     if flags & flag.0 == 0 {
         return Ok(());
     }
-    put(out, flag.1)
+    out.put(flag.1)
 }
 
 /// The busy flags that a word says.

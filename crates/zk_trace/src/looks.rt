@@ -1,11 +1,11 @@
-ghost use Rattle.std.specs.Prelude.{◌≡◌, ◌++◌, decimal, OnOk, OnErr};
-ghost use Rattle.zk_trace.specs.Fronts.{StaysInFront};
+ghost use Rattle.std.specs.Prelude.{◌≡◌, ◌++◌, decimal, OnOk};
 ghost use Rattle.zk_trace.specs.Looks.{look_head, item_look_line, signal_look_line, raised_word, seen_word, stamp_word};
 
 use crate::flags::put_flags;
 use crate::lined::{Lined, put_spot};
 use crate::names::name_at;
-use zk_base::{Listed, NoMemory, Seen, put, put_decimal};
+use zk_base::{Listed, NoMemory, Seen};
+use zk_paper::Paper;
 use zk_scenario::Scenario;
 
 /// The word of a look.
@@ -55,46 +55,46 @@ pub type SignalLooks = Listed<Listed<SignalLook>>;
 impl Lined for ItemLook {
     ghost text = { item_look_line };
 
-    fn put_line(&self, out: &mut Vec<u8>, scenario: &Scenario) -> Result<(), NoMemory> {
+    fn put_line(&self, out: &mut Paper, scenario: &Scenario) -> Result<(), NoMemory> {
         put_look_head(out, scenario, self.player, self.step)?;
         out.push(b' ')?;
-        put(out, BUSY)?;
+        out.put(BUSY)?;
         out.push(b' ')?;
-        put(out, name_at(scenario.decls(), self.item as usize))?;
-        put(out, b" = ")?;
+        out.put(name_at(scenario.decls(), self.item as usize))?;
+        out.put(b" = ")?;
         put_flags(out, self.flags)?;
         out.push(b' ')?;
         put_stamp(out, self.at)?;
-        put(out, b"\n")
+        out.push(b'\n')
     }
 }
 
 impl Lined for SignalLook {
     ghost text = { signal_look_line };
 
-    fn put_line(&self, out: &mut Vec<u8>, scenario: &Scenario) -> Result<(), NoMemory> {
+    fn put_line(&self, out: &mut Paper, scenario: &Scenario) -> Result<(), NoMemory> {
         put_look_head(out, scenario, self.player, self.step)?;
         out.push(b' ')?;
-        put(out, CHECK)?;
-        put(out, b" = ")?;
+        out.put(CHECK)?;
+        out.put(b" = ")?;
         put_seen(out, self.seen.raised, self.seen.result)?;
         out.push(b' ')?;
         put_stamp(out, u64::from(self.seen.stamp))?;
-        put(out, b"\n")
+        out.push(b'\n')
     }
 }
 
 /// The word of a look and whose step it is.
 fn put_look_head(
-    out: &mut Vec<u8>,
+    out: &mut Paper,
     scenario: &Scenario,
     player: u32,
     step: u32,
 ) -> Result<(), NoMemory>
-    ensures text { OnOk result (out.new.items ≡ out.old.items ++ look_head scenario.now.decls player step) }
-    ensures kept { OnErr result (StaysInFront out.old.items out.new.items) }
+    ensures text { OnOk result (out.new.put ≡ out.old.put ++ look_head scenario.now.decls player step) }
+    ensures front { out.new.front ≡ out.old.front }
 {
-    put(out, LOOK)?;
+    out.put(LOOK)?;
     out.push(b' ')?;
     put_spot(out, scenario, player, step)
 }
@@ -107,20 +107,20 @@ pub fn raised_word(raised: bool) -> &'static [u8]
 }
 
 /// What a signal was: raised or clear, and the result.
-pub fn put_seen(out: &mut Vec<u8>, raised: bool, value: u16) -> Result<(), NoMemory>
-    ensures text { OnOk result (out.new.items ≡ out.old.items ++ seen_word raised value) }
-    ensures kept { OnErr result (StaysInFront out.old.items out.new.items) }
+pub fn put_seen(out: &mut Paper, raised: bool, value: u16) -> Result<(), NoMemory>
+    ensures text { OnOk result (out.new.put ≡ out.old.put ++ seen_word raised value) }
+    ensures front { out.new.front ≡ out.old.front }
 {
-    put(out, raised_word(raised))?;
+    out.put(raised_word(raised))?;
     out.push(b' ')?;
-    put_decimal(out, u64::from(value))
+    out.put_number(u64::from(value))
 }
 
 /// After how many entries or writes it was so.
-fn put_stamp(out: &mut Vec<u8>, stamp: u64) -> Result<(), NoMemory>
-    ensures text { OnOk result (out.new.items ≡ out.old.items ++ stamp_word stamp) }
-    ensures kept { OnErr result (StaysInFront out.old.items out.new.items) }
+fn put_stamp(out: &mut Paper, stamp: u64) -> Result<(), NoMemory>
+    ensures text { OnOk result (out.new.put ≡ out.old.put ++ stamp_word stamp) }
+    ensures front { out.new.front ≡ out.old.front }
 {
-    put(out, STAMP)?;
-    put_decimal(out, stamp)
+    out.put(STAMP)?;
+    out.put_number(stamp)
 }

@@ -7,6 +7,7 @@ use crate::sizes::Sizes;
 use crate::spelled::Spelled;
 use zk_base::{Errno, NoMemory};
 use zk_model_wait::{MsgqOp, MsgqReply};
+use zk_paper::Paper;
 use zk_scenario::Scenario;
 
 /// The verbs of a message queue's operations.
@@ -111,7 +112,7 @@ pub fn reply_parts(reply: &MsgqReply) -> PartList<'_>
 impl Spelled for MsgqOp {
     ghost words = { op_words };
 
-    fn put_words(&self, out: &mut Vec<u8>, scenario: &Scenario) -> Result<(), NoMemory> {
+    fn put_words(&self, out: &mut Paper, scenario: &Scenario) -> Result<(), NoMemory> {
         let (verb, parts) = said_of(self);
         put_said(out, scenario, verb_word(verb), &parts)
     }
@@ -120,7 +121,7 @@ impl Spelled for MsgqOp {
 impl Spelled for MsgqReply {
     ghost words = { reply_words };
 
-    fn put_words(&self, out: &mut Vec<u8>, scenario: &Scenario) -> Result<(), NoMemory> {
+    fn put_words(&self, out: &mut Paper, scenario: &Scenario) -> Result<(), NoMemory> {
         put_parts(out, scenario, b' ', &reply_parts(self))
     }
 }

@@ -1,12 +1,12 @@
-ghost use Rattle.std.specs.Prelude.{◌≡◌, ◌∷◌, ◌++◌, slice_get, option_copied, OnOk, OnErr};
+ghost use Rattle.std.specs.Prelude.{◌≡◌, ◌∷◌, ◌++◌, slice_get, option_copied, OnOk};
 ghost use Rattle.std.specs.List.{flat_map};
 ghost use Rattle.zk_line.specs.Objects.{places, is_item, is_queue, name_at};
 ghost use Rattle.zk_scenario.specs.Players.{players};
-ghost use Rattle.zk_trace.specs.Fronts.{StaysInFront};
 ghost use Rattle.zk_trace.specs.Names.{object_name, item_name, queue_name, target_name, checked_name, name_behind, names_word, player_name};
 
-use zk_base::{NoMemory, put};
+use zk_base::NoMemory;
 use zk_line::name_of;
+use zk_paper::Paper;
 use zk_scenario::{Decl, Scenario};
 
 /// What stands for no name.
@@ -89,32 +89,32 @@ pub fn name_at(decls: &[Decl], object: usize) -> &[u8]
 }
 
 /// Appends the names of objects with a space between two, and a dash for none.
-pub fn put_names(out: &mut Vec<u8>, scenario: &Scenario, objects: &[u32]) -> Result<(), NoMemory>
-    ensures text { OnOk result (out.new.items ≡ out.old.items ++ names_word scenario.now.decls objects.now) }
-    ensures kept { OnErr result (StaysInFront out.old.items out.new.items) }
+pub fn put_names(out: &mut Paper, scenario: &Scenario, objects: &[u32]) -> Result<(), NoMemory>
+    ensures text { OnOk result (out.new.put ≡ out.old.put ++ names_word scenario.now.decls objects.now) }
+    ensures front { out.new.front ≡ out.old.front }
 {
     match objects {
-        [] => put(out, NO_NAME),
+        [] => out.put(NO_NAME),
         [object, more @ ..] => put_some_names(out, scenario, *object, more),
     }
 }
 
 fn put_some_names(
-    out: &mut Vec<u8>,
+    out: &mut Paper,
     scenario: &Scenario,
     first: u32,
     more: &[u32],
 ) -> Result<(), NoMemory>
-    ensures text { OnOk result (out.new.items ≡ out.old.items ++ names_word scenario.now.decls (first ∷ more.now)) }
-    ensures kept { OnErr result (StaysInFront out.old.items out.new.items) }
+    ensures text { OnOk result (out.new.put ≡ out.old.put ++ names_word scenario.now.decls (first ∷ more.now)) }
+    ensures front { out.new.front ≡ out.old.front }
 {
-    put(out, name_at(scenario.decls(), first as usize))?;
+    out.put(name_at(scenario.decls(), first as usize))?;
     put_names_behind(out, scenario, more)
 }
 
-fn put_names_behind(out: &mut Vec<u8>, scenario: &Scenario, objects: &[u32]) -> Result<(), NoMemory>
-    ensures text { OnOk result (out.new.items ≡ out.old.items ++ flat_map (name_behind scenario.now.decls) objects.now) }
-    ensures kept { OnErr result (StaysInFront out.old.items out.new.items) }
+fn put_names_behind(out: &mut Paper, scenario: &Scenario, objects: &[u32]) -> Result<(), NoMemory>
+    ensures text { OnOk result (out.new.put ≡ out.old.put ++ flat_map (name_behind scenario.now.decls) objects.now) }
+    ensures front { out.new.front ≡ out.old.front }
 {
     for object in objects {
         put_name_behind(out, scenario, *object)?;
@@ -122,10 +122,10 @@ fn put_names_behind(out: &mut Vec<u8>, scenario: &Scenario, objects: &[u32]) -> 
     Ok(())
 }
 
-fn put_name_behind(out: &mut Vec<u8>, scenario: &Scenario, object: u32) -> Result<(), NoMemory>
-    ensures text { OnOk result (out.new.items ≡ out.old.items ++ name_behind scenario.now.decls object) }
-    ensures kept { OnErr result (StaysInFront out.old.items out.new.items) }
+fn put_name_behind(out: &mut Paper, scenario: &Scenario, object: u32) -> Result<(), NoMemory>
+    ensures text { OnOk result (out.new.put ≡ out.old.put ++ name_behind scenario.now.decls object) }
+    ensures front { out.new.front ≡ out.old.front }
 {
-    put(out, b" ")?;
-    put(out, name_at(scenario.decls(), object as usize))
+    out.put(b" ")?;
+    out.put(name_at(scenario.decls(), object as usize))
 }

@@ -7,6 +7,7 @@ use crate::sizes::Sizes;
 use crate::spelled::Spelled;
 use zk_base::{Errno, NoMemory};
 use zk_model_bus::{ObsOp, ObsReply};
+use zk_paper::Paper;
 use zk_scenario::Scenario;
 
 /// The verbs of an observer's operations.
@@ -70,7 +71,7 @@ pub fn reply_parts(reply: ObsReply) -> PartList<'static>
 impl Spelled for ObsOp {
     ghost words = { op_words };
 
-    fn put_words(&self, out: &mut Vec<u8>, scenario: &Scenario) -> Result<(), NoMemory> {
+    fn put_words(&self, out: &mut Paper, scenario: &Scenario) -> Result<(), NoMemory> {
         let (verb, parts) = said_of(*self);
         put_said(out, scenario, verb_word(verb), &parts)
     }
@@ -79,7 +80,7 @@ impl Spelled for ObsOp {
 impl Spelled for ObsReply {
     ghost words = { reply_words };
 
-    fn put_words(&self, out: &mut Vec<u8>, scenario: &Scenario) -> Result<(), NoMemory> {
+    fn put_words(&self, out: &mut Paper, scenario: &Scenario) -> Result<(), NoMemory> {
         put_parts(out, scenario, b' ', &reply_parts(*self))
     }
 }

@@ -1,15 +1,14 @@
-ghost use Rattle.std.specs.Prelude.{◌≡◌, [], ◌∷◌, ◌++◌, map, OnOk, OnErr, length, ◌≤◌};
+ghost use Rattle.std.specs.Prelude.{◌≡◌, [], ◌∷◌, ◌++◌, map, OnOk, length, ◌≤◌};
 ghost use Rattle.std.specs.List.{cons_option};
 ghost use Rattle.zk_words.specs.Bytes.{space};
-ghost use Rattle.zk_trace.specs.Fronts.{StaysInFront};
 ghost use Rattle.zk_trace.specs.Names.{target_name};
 ghost use Rattle.zk_trace.specs.Parts.{fixed_word, part_word, answer_part, each_behind};
 ghost use Rattle.zk_trace.specs.Sized.{IsSizedPart, AreSized};
 ghost use Rattle.zk_base.specs.Limits.{most_few};
 ghost use Rattle.zk_trace.specs.Static.{static_word, static_row};
 
-use crate::figures::put_number;
 use crate::flags::put_flags;
+use crate::hex::put_hex;
 use crate::looks::put_seen;
 use crate::names::{checked_name, item_name, name_at, put_names, queue_name, target_name};
 use crate::sizes::{Sizes, narrow, octets, short, wide};
@@ -17,10 +16,11 @@ use crate::words::{
     errno_word, need_word, put_admission, put_oops, put_ready, truth_word, wait_word,
 };
 use std::marker::Model;
-use zk_base::{Errno, Few, Msg, NoMemory, put};
+use zk_base::{Errno, Few, Msg, NoMemory};
 use zk_model_bus::{Need, OopsWhy};
+use zk_paper::Paper;
 use zk_scenario::Scenario;
-use zk_words::{Choice, choice_text, put_hex};
+use zk_words::{Choice, choice_text};
 use zk_worker::{Answer, Positions};
 
 /// A word of an operation behind its verb, or a word of a reply.
@@ -308,30 +308,29 @@ pub fn static_row(parts: &PartList<'_>) -> &'static [u8]
 
 /// Appends a verb and what stands behind it, each behind a space.
 pub fn put_said(
-    out: &mut Vec<u8>,
+    out: &mut Paper,
     scenario: &Scenario,
     verb: &[u8],
     parts: &PartList<'_>,
 ) -> Result<(), NoMemory>
-    ensures text { OnOk result (out.new.items ≡
-        out.old.items ++ each_behind space (verb.now ∷ map (part_word scenario.now.decls) parts.now)) }
-    ensures kept { OnErr result (StaysInFront out.old.items out.new.items) }
+    ensures text { OnOk result (out.new.put ≡
+        out.old.put ++ each_behind space (verb.now ∷ map (part_word scenario.now.decls) parts.now)) }
+    ensures front { out.new.front ≡ out.old.front }
 {
-    out.push(b' ')?;
-    put(out, verb)?;
+    out.put_behind(b' ', verb)?;
     put_parts(out, scenario, b' ', parts)
 }
 
 /// Appends parts, each behind this separator.
 pub fn put_parts(
-    out: &mut Vec<u8>,
+    out: &mut Paper,
     scenario: &Scenario,
     separator: u8,
     parts: &PartList<'_>,
 ) -> Result<(), NoMemory>
-    ensures text { OnOk result (out.new.items ≡
-        out.old.items ++ each_behind separator (map (part_word scenario.now.decls) parts.now)) }
-    ensures kept { OnErr result (StaysInFront out.old.items out.new.items) }
+    ensures text { OnOk result (out.new.put ≡
+        out.old.put ++ each_behind separator (map (part_word scenario.now.decls) parts.now)) }
+    ensures front { out.new.front ≡ out.old.front }
 {
     put_any(out, scenario, separator, &parts.first)?;
     put_any(out, scenario, separator, &parts.second)?;
@@ -340,14 +339,14 @@ pub fn put_parts(
 
 /// Appends a part behind its separator, where there is one.
 fn put_any(
-    out: &mut Vec<u8>,
+    out: &mut Paper,
     scenario: &Scenario,
     separator: u8,
     part: &Option<Part<'_>>,
 ) -> Result<(), NoMemory>
-    ensures text { OnOk result (out.new.items ≡
-        out.old.items ++ each_behind separator (map (part_word scenario.now.decls) (cons_option part.now []))) }
-    ensures kept { OnErr result (StaysInFront out.old.items out.new.items) }
+    ensures text { OnOk result (out.new.put ≡
+        out.old.put ++ each_behind separator (map (part_word scenario.now.decls) (cons_option part.now []))) }
+    ensures front { out.new.front ≡ out.old.front }
 {
     match part {
         Some(part) => put_part(out, scenario, separator, part),
@@ -357,45 +356,45 @@ fn put_any(
 
 /// Appends a separator and then a part.
 pub fn put_part(
-    out: &mut Vec<u8>,
+    out: &mut Paper,
     scenario: &Scenario,
     separator: u8,
     part: &Part<'_>,
 ) -> Result<(), NoMemory>
-    ensures text { OnOk result (out.new.items ≡ out.old.items ++ separator ∷ part_word scenario.now.decls part.now) }
-    ensures kept { OnErr result (StaysInFront out.old.items out.new.items) }
+    ensures text { OnOk result (out.new.put ≡ out.old.put ++ separator ∷ part_word scenario.now.decls part.now) }
+    ensures front { out.new.front ≡ out.old.front }
 {
     out.push(separator)?;
     put_word(out, scenario, part)
 }
 
-fn put_word(out: &mut Vec<u8>, scenario: &Scenario, part: &Part<'_>) -> Result<(), NoMemory>
-    ensures text { OnOk result (out.new.items ≡ out.old.items ++ part_word scenario.now.decls part.now) }
-    ensures kept { OnErr result (StaysInFront out.old.items out.new.items) }
+fn put_word(out: &mut Paper, scenario: &Scenario, part: &Part<'_>) -> Result<(), NoMemory>
+    ensures text { OnOk result (out.new.put ≡ out.old.put ++ part_word scenario.now.decls part.now) }
+    ensures front { out.new.front ≡ out.old.front }
 {
     match part {
-        Part::Item(item) => put(out, item_name(scenario, *item)),
-        Part::Queue(queue) => put(out, queue_name(scenario, *queue)),
-        Part::Target(queue) => put(out, target_name(scenario, *queue)),
-        Part::Object(object) => put(out, name_at(scenario.decls(), *object as usize)),
+        Part::Item(item) => out.put(item_name(scenario, *item)),
+        Part::Queue(queue) => out.put(queue_name(scenario, *queue)),
+        Part::Target(queue) => out.put(target_name(scenario, *queue)),
+        Part::Object(object) => out.put(name_at(scenario.decls(), *object as usize)),
         Part::Objects(objects) => put_names(out, scenario, objects.numbers()),
-        Part::Checked(object) => put(out, checked_name(scenario, *object)),
-        Part::Need(need) => put(out, need_word(*need)),
-        Part::Narrow(number) => put_number(out, u64::from(*number)),
-        Part::Wide(number) => put_number(out, *number),
-        Part::Place(place) => put_number(out, *place),
+        Part::Checked(object) => out.put(checked_name(scenario, *object)),
+        Part::Need(need) => out.put(need_word(*need)),
+        Part::Narrow(number) => out.put_number(u64::from(*number)),
+        Part::Wide(number) => out.put_number(*number),
+        Part::Place(place) => out.put_number(*place),
         Part::Admission(number) => put_admission(out, *number),
-        Part::Plug(plug) => put(out, choice_text(Choice::Drain, *plug)),
-        Part::State(on) => put(out, choice_text(Choice::State, *on)),
+        Part::Plug(plug) => out.put(choice_text(Choice::Drain, *plug)),
+        Part::State(on) => out.put(choice_text(Choice::State, *on)),
         Part::Flags(flags) => put_flags(out, *flags),
-        Part::Truth(truth) => put(out, truth_word(*truth)),
+        Part::Truth(truth) => out.put(truth_word(*truth)),
         Part::Bytes(message) => put_hex(out, message.bytes()),
         Part::Seen(raised, value) => put_seen(out, *raised, *value),
         Part::Ready(positions) => put_ready(out, positions.numbers()),
-        Part::Waits(waits) => put(out, wait_word(*waits)),
-        Part::Refusal(errno) => put(out, errno_word(*errno)),
+        Part::Waits(waits) => out.put(wait_word(*waits)),
+        Part::Refusal(errno) => out.put(errno_word(*errno)),
         Part::Oops(why) => put_oops(out, *why),
-        Part::Fixed(fixed) => put(out, fixed_word(*fixed)),
+        Part::Fixed(fixed) => out.put(fixed_word(*fixed)),
     }
 }
 

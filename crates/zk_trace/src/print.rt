@@ -1,13 +1,14 @@
 ghost use Rattle.std.specs.Prelude.{◌≡◌, ◌++◌, OnOk, OnErr, IfOk};
 ghost use Rattle.zk_scenario.specs.Spelling.{text_of};
-ghost use Rattle.zk_trace.specs.Fronts.{StaysInFront};
 ghost use Rattle.zk_trace.specs.Text.{single_sections, service_sections, trace_text};
 
 use crate::Trace;
 use crate::sections::{put_looked, put_looked_objects, put_objects, put_players, put_service};
 use crate::words::ending_word;
 use std::alloc::Global;
-use zk_base::{NoMemory, put};
+use std::mem;
+use zk_base::NoMemory;
+use zk_paper::Paper;
 use zk_scenario::{Scenario, print_scenario};
 
 /// The first line of the trace part.
@@ -18,29 +19,32 @@ pub fn put_trace(out: &mut Vec<u8>, scenario: &Scenario, trace: &Trace) -> Resul
     ensures text { OnOk result (out.new.items ≡ out.old.items ++ trace_text scenario.now trace.now) }
     ensures unchanged { OnErr result (out.new.items ≡ out.old.items) }
 {
-    let before = out.len();
-    let put = put_all(out, scenario, trace);
-    if put.is_err() {
-        out.truncate(before);
+    let alloc = *out.allocator();
+    let mut paper = Paper::behind(mem::replace(out, Vec::new(alloc)));
+    if let Err(error) = put_all(&mut paper, scenario, trace) {
+        *out = paper.front();
+        return Err(error);
     }
+    let (whole, put) = paper.whole();
+    *out = whole;
     put
 }
 
-fn put_all(out: &mut Vec<u8>, scenario: &Scenario, trace: &Trace) -> Result<(), NoMemory>
-    ensures text { OnOk result (out.new.items ≡ out.old.items ++ trace_text scenario.now trace.now) }
-    ensures kept { OnErr result (StaysInFront out.old.items out.new.items) }
+fn put_all(out: &mut Paper, scenario: &Scenario, trace: &Trace) -> Result<(), NoMemory>
+    ensures text { OnOk result (out.new.put ≡ out.old.put ++ trace_text scenario.now trace.now) }
+    ensures front { out.new.front ≡ out.old.front }
 {
-    put(out, FIRST)?;
-    put(out, b"\n")?;
-    put(out, ending_word(trace.ending))?;
-    put(out, b"\n")?;
+    out.put(FIRST)?;
+    out.push(b'\n')?;
+    out.put(ending_word(trace.ending))?;
+    out.push(b'\n')?;
     put_services(out, scenario, trace)?;
     put_players(out, scenario, trace.logs.items())
 }
 
-fn put_services(out: &mut Vec<u8>, scenario: &Scenario, trace: &Trace) -> Result<(), NoMemory>
-    ensures text { OnOk result (out.new.items ≡ out.old.items ++ service_sections scenario.now trace.now) }
-    ensures kept { OnErr result (StaysInFront out.old.items out.new.items) }
+fn put_services(out: &mut Paper, scenario: &Scenario, trace: &Trace) -> Result<(), NoMemory>
+    ensures text { OnOk result (out.new.put ≡ out.old.put ++ service_sections scenario.now trace.now) }
+    ensures front { out.new.front ≡ out.old.front }
 {
     put_single_services(out, scenario, trace)?;
     put_objects(out, scenario, trace.sems.items())?;
@@ -65,13 +69,9 @@ pub const CLOCK: &[u8] = b"clock";
 pub const TABLE: &[u8] = b"table";
 
 /// The sections of the services of which there is one.
-fn put_single_services(
-    out: &mut Vec<u8>,
-    scenario: &Scenario,
-    trace: &Trace,
-) -> Result<(), NoMemory>
-    ensures text { OnOk result (out.new.items ≡ out.old.items ++ single_sections scenario.now trace.now) }
-    ensures kept { OnErr result (StaysInFront out.old.items out.new.items) }
+fn put_single_services(out: &mut Paper, scenario: &Scenario, trace: &Trace) -> Result<(), NoMemory>
+    ensures text { OnOk result (out.new.put ≡ out.old.put ++ single_sections scenario.now trace.now) }
+    ensures front { out.new.front ≡ out.old.front }
 {
     put_looked(
         out,

@@ -1,5 +1,4 @@
-ghost use Rattle.std.specs.Prelude.{◌≡◌, ◌++◌, OnOk, OnErr, drop};
-ghost use Rattle.zk_trace.specs.Fronts.{StaysInFront};
+ghost use Rattle.std.specs.Prelude.{◌≡◌, ◌++◌, OnOk, drop};
 ghost use Rattle.zk_trace.specs.Text.{section_head, service_section, object_section, object_sections, looked_section, looks_at, looked_object, looked_sections, player_head, player_section, player_sections};
 
 use crate::History;
@@ -7,20 +6,21 @@ use crate::lined::{Lined, put_lines};
 use crate::names::{name_at, player_name};
 use crate::spelled::Spelled;
 use crate::words::state_word;
-use zk_base::{Entry, Listed, NoMemory, put};
+use zk_base::{Entry, Listed, NoMemory};
+use zk_paper::Paper;
 use zk_scenario::Scenario;
 use zk_worker::{Log, PlayerState};
 
 /// Appends the section of a service, where it did anything.
 pub fn put_service<O: Spelled, R: Spelled>(
-    out: &mut Vec<u8>,
+    out: &mut Paper,
     scenario: &Scenario,
     name: &[u8],
     entries: &[Entry<O, R>],
 ) -> Result<(), NoMemory>
-    ensures text { OnOk result (out.new.items ≡
-        out.old.items ++ service_section O.words R.words scenario.now.decls name.now entries.now) }
-    ensures kept { OnErr result (StaysInFront out.old.items out.new.items) }
+    ensures text { OnOk result (out.new.put ≡
+        out.old.put ++ service_section O.words R.words scenario.now.decls name.now entries.now) }
+    ensures front { out.new.front ≡ out.old.front }
 {
     if entries.is_empty() {
         return Ok(());
@@ -31,13 +31,13 @@ pub fn put_service<O: Spelled, R: Spelled>(
 
 /// Appends the sections of the objects of a kind, each under the name of its object.
 pub fn put_objects<O: Spelled, R: Spelled>(
-    out: &mut Vec<u8>,
+    out: &mut Paper,
     scenario: &Scenario,
     histories: &[History<O, R>],
 ) -> Result<(), NoMemory>
-    ensures text { OnOk result (out.new.items ≡
-        out.old.items ++ object_sections O.words R.words scenario.now.decls 0 histories.now) }
-    ensures kept { OnErr result (StaysInFront out.old.items out.new.items) }
+    ensures text { OnOk result (out.new.put ≡
+        out.old.put ++ object_sections O.words R.words scenario.now.decls 0 histories.now) }
+    ensures front { out.new.front ≡ out.old.front }
 {
     for (object, history) in histories.iter().enumerate() {
         put_object(out, scenario, object, history)?;
@@ -46,14 +46,14 @@ pub fn put_objects<O: Spelled, R: Spelled>(
 }
 
 fn put_object<O: Spelled, R: Spelled>(
-    out: &mut Vec<u8>,
+    out: &mut Paper,
     scenario: &Scenario,
     object: usize,
     history: &History<O, R>,
 ) -> Result<(), NoMemory>
-    ensures text { OnOk result (out.new.items ≡
-        out.old.items ++ object_section O.words R.words scenario.now.decls object history.now) }
-    ensures kept { OnErr result (StaysInFront out.old.items out.new.items) }
+    ensures text { OnOk result (out.new.put ≡
+        out.old.put ++ object_section O.words R.words scenario.now.decls object history.now) }
+    ensures front { out.new.front ≡ out.old.front }
 {
     put_service(
         out,
@@ -65,15 +65,15 @@ fn put_object<O: Spelled, R: Spelled>(
 
 /// Appends the section of a service that is looked at, where it did anything or was looked at.
 pub fn put_looked<O: Spelled, R: Spelled, L: Lined>(
-    out: &mut Vec<u8>,
+    out: &mut Paper,
     scenario: &Scenario,
     name: &[u8],
     entries: &[Entry<O, R>],
     looks: &[L],
 ) -> Result<(), NoMemory>
-    ensures text { OnOk result (out.new.items ≡ out.old.items
+    ensures text { OnOk result (out.new.put ≡ out.old.put
         ++ looked_section O.words R.words L.text scenario.now.decls name.now entries.now looks.now) }
-    ensures kept { OnErr result (StaysInFront out.old.items out.new.items) }
+    ensures front { out.new.front ≡ out.old.front }
 {
     if entries.is_empty() && looks.is_empty() {
         return Ok(());
@@ -85,14 +85,14 @@ pub fn put_looked<O: Spelled, R: Spelled, L: Lined>(
 
 /// Appends the sections of the objects of a kind that is looked at, each under the name of its object.
 pub fn put_looked_objects<O: Spelled, R: Spelled, L: Lined>(
-    out: &mut Vec<u8>,
+    out: &mut Paper,
     scenario: &Scenario,
     histories: &[History<O, R>],
     looks: &[Listed<L>],
 ) -> Result<(), NoMemory>
-    ensures text { OnOk result (out.new.items ≡ out.old.items
+    ensures text { OnOk result (out.new.put ≡ out.old.put
         ++ looked_sections O.words R.words L.text scenario.now.decls looks.now 0 histories.now) }
-    ensures kept { OnErr result (StaysInFront out.old.items out.new.items) }
+    ensures front { out.new.front ≡ out.old.front }
 {
     for (object, history) in histories.iter().enumerate() {
         put_looked_object(out, scenario, object, history, looks)?;
@@ -101,15 +101,15 @@ pub fn put_looked_objects<O: Spelled, R: Spelled, L: Lined>(
 }
 
 fn put_looked_object<O: Spelled, R: Spelled, L: Lined>(
-    out: &mut Vec<u8>,
+    out: &mut Paper,
     scenario: &Scenario,
     object: usize,
     history: &History<O, R>,
     looks: &[Listed<L>],
 ) -> Result<(), NoMemory>
-    ensures text { OnOk result (out.new.items ≡ out.old.items
+    ensures text { OnOk result (out.new.put ≡ out.old.put
         ++ looked_object O.words R.words L.text scenario.now.decls looks.now object history.now) }
-    ensures kept { OnErr result (StaysInFront out.old.items out.new.items) }
+    ensures front { out.new.front ≡ out.old.front }
 {
     put_looked(
         out,
@@ -136,19 +136,19 @@ pub const SERVICE: &[u8] = b"service ";
 /// The first word in the head of a player's section.
 pub const PLAYER: &[u8] = b"player";
 
-fn put_service_head(out: &mut Vec<u8>, name: &[u8]) -> Result<(), NoMemory>
-    ensures text { OnOk result (out.new.items ≡ out.old.items ++ section_head name.now) }
-    ensures kept { OnErr result (StaysInFront out.old.items out.new.items) }
+fn put_service_head(out: &mut Paper, name: &[u8]) -> Result<(), NoMemory>
+    ensures text { OnOk result (out.new.put ≡ out.old.put ++ section_head name.now) }
+    ensures front { out.new.front ≡ out.old.front }
 {
-    put(out, SERVICE)?;
-    put(out, name)?;
-    put(out, b"\n")
+    out.put(SERVICE)?;
+    out.put(name)?;
+    out.push(b'\n')
 }
 
 /// Appends the sections of all players.
-pub fn put_players(out: &mut Vec<u8>, scenario: &Scenario, logs: &[Log]) -> Result<(), NoMemory>
-    ensures text { OnOk result (out.new.items ≡ out.old.items ++ player_sections scenario.now.decls 0 logs.now) }
-    ensures kept { OnErr result (StaysInFront out.old.items out.new.items) }
+pub fn put_players(out: &mut Paper, scenario: &Scenario, logs: &[Log]) -> Result<(), NoMemory>
+    ensures text { OnOk result (out.new.put ≡ out.old.put ++ player_sections scenario.now.decls 0 logs.now) }
+    ensures front { out.new.front ≡ out.old.front }
 {
     for (player, log) in logs.iter().enumerate() {
         put_player(out, scenario, player, log)?;
@@ -157,26 +157,26 @@ pub fn put_players(out: &mut Vec<u8>, scenario: &Scenario, logs: &[Log]) -> Resu
 }
 
 fn put_player(
-    out: &mut Vec<u8>,
+    out: &mut Paper,
     scenario: &Scenario,
     player: usize,
     log: &Log,
 ) -> Result<(), NoMemory>
-    ensures text { OnOk result (out.new.items ≡ out.old.items ++ player_section scenario.now.decls player log.now) }
-    ensures kept { OnErr result (StaysInFront out.old.items out.new.items) }
+    ensures text { OnOk result (out.new.put ≡ out.old.put ++ player_section scenario.now.decls player log.now) }
+    ensures front { out.new.front ≡ out.old.front }
 {
     put_player_head(out, player_name(scenario, player), log.state)?;
     put_lines(out, scenario, log.answers.items())
 }
 
-fn put_player_head(out: &mut Vec<u8>, name: &[u8], state: PlayerState) -> Result<(), NoMemory>
-    ensures text { OnOk result (out.new.items ≡ out.old.items ++ player_head name.now state) }
-    ensures kept { OnErr result (StaysInFront out.old.items out.new.items) }
+fn put_player_head(out: &mut Paper, name: &[u8], state: PlayerState) -> Result<(), NoMemory>
+    ensures text { OnOk result (out.new.put ≡ out.old.put ++ player_head name.now state) }
+    ensures front { out.new.front ≡ out.old.front }
 {
-    put(out, PLAYER)?;
-    put(out, b" ")?;
-    put(out, name)?;
-    put(out, b" ")?;
-    put(out, state_word(state))?;
-    put(out, b"\n")
+    out.put(PLAYER)?;
+    out.put(b" ")?;
+    out.put(name)?;
+    out.put(b" ")?;
+    out.put(state_word(state))?;
+    out.push(b'\n')
 }

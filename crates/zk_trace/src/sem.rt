@@ -7,6 +7,7 @@ use crate::sizes::Sizes;
 use crate::spelled::Spelled;
 use zk_base::{Errno, NoMemory};
 use zk_model_wait::{SemOp, SemReply};
+use zk_paper::Paper;
 use zk_scenario::Scenario;
 
 /// The verbs of a semaphore's operations.
@@ -88,7 +89,7 @@ pub fn reply_parts(reply: SemReply) -> PartList<'static>
 impl Spelled for SemOp {
     ghost words = { op_words };
 
-    fn put_words(&self, out: &mut Vec<u8>, scenario: &Scenario) -> Result<(), NoMemory> {
+    fn put_words(&self, out: &mut Paper, scenario: &Scenario) -> Result<(), NoMemory> {
         let (verb, parts) = said_of(*self);
         put_said(out, scenario, verb_word(verb), &parts)
     }
@@ -97,7 +98,7 @@ impl Spelled for SemOp {
 impl Spelled for SemReply {
     ghost words = { reply_words };
 
-    fn put_words(&self, out: &mut Vec<u8>, scenario: &Scenario) -> Result<(), NoMemory> {
+    fn put_words(&self, out: &mut Paper, scenario: &Scenario) -> Result<(), NoMemory> {
         put_parts(out, scenario, b' ', &reply_parts(*self))
     }
 }

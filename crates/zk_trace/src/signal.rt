@@ -7,6 +7,7 @@ use crate::sizes::{Sizes, short};
 use crate::spelled::Spelled;
 use zk_base::NoMemory;
 use zk_model_wait::{SignalOp, SignalReply};
+use zk_paper::Paper;
 use zk_scenario::Scenario;
 
 /// The verbs of a signal's operations.
@@ -50,7 +51,7 @@ pub fn reply_parts(reply: SignalReply) -> PartList<'static>
 impl Spelled for SignalOp {
     ghost words = { op_words };
 
-    fn put_words(&self, out: &mut Vec<u8>, scenario: &Scenario) -> Result<(), NoMemory> {
+    fn put_words(&self, out: &mut Paper, scenario: &Scenario) -> Result<(), NoMemory> {
         let (verb, parts) = said_of(*self);
         put_said(out, scenario, verb_word(verb), &parts)
     }
@@ -59,7 +60,7 @@ impl Spelled for SignalOp {
 impl Spelled for SignalReply {
     ghost words = { reply_words };
 
-    fn put_words(&self, out: &mut Vec<u8>, scenario: &Scenario) -> Result<(), NoMemory> {
+    fn put_words(&self, out: &mut Paper, scenario: &Scenario) -> Result<(), NoMemory> {
         put_parts(out, scenario, b' ', &reply_parts(*self))
     }
 }

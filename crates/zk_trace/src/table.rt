@@ -7,6 +7,7 @@ use crate::sizes::Sizes;
 use crate::spelled::Spelled;
 use zk_base::NoMemory;
 use zk_model_bus::{TableOp, TableReply};
+use zk_paper::Paper;
 use zk_scenario::Scenario;
 
 /// The verbs of the object table's operations.
@@ -81,7 +82,7 @@ pub fn reply_parts(reply: TableReply) -> PartList<'static>
 impl Spelled for TableOp {
     ghost words = { op_words };
 
-    fn put_words(&self, out: &mut Vec<u8>, scenario: &Scenario) -> Result<(), NoMemory> {
+    fn put_words(&self, out: &mut Paper, scenario: &Scenario) -> Result<(), NoMemory> {
         let (verb, parts) = said_of(*self);
         put_said(out, scenario, verb_word(verb), &parts)
     }
@@ -90,7 +91,7 @@ impl Spelled for TableOp {
 impl Spelled for TableReply {
     ghost words = { reply_words };
 
-    fn put_words(&self, out: &mut Vec<u8>, scenario: &Scenario) -> Result<(), NoMemory> {
+    fn put_words(&self, out: &mut Paper, scenario: &Scenario) -> Result<(), NoMemory> {
         put_parts(out, scenario, b' ', &reply_parts(*self))
     }
 }

@@ -1,11 +1,10 @@
-ghost use Rattle.std.specs.Prelude.{◌≡◌, ◌++◌, OnOk, OnErr};
-ghost use Rattle.zk_trace.specs.Fronts.{StaysInFront};
+ghost use Rattle.std.specs.Prelude.{◌≡◌, ◌++◌, OnOk};
 ghost use Rattle.zk_trace.specs.Words.{ending_word, errno_word, need_word, why_word, oops_word, admission_word, truth_word, wait_word, position_text, positions_text, ready_word, call_word, state_word};
 
 use crate::Ending;
-use crate::figures::put_number;
-use zk_base::{Errno, NoMemory, put};
+use zk_base::{Errno, NoMemory};
 use zk_model_bus::{Need, OopsWhy};
+use zk_paper::Paper;
 use zk_words::{Head, Word, row_of};
 use zk_worker::PlayerState;
 
@@ -75,21 +74,21 @@ pub fn why_word(why: OopsWhy) -> &'static [u8]
 }
 
 /// Appends the word `oops` and why a check fails.
-pub fn put_oops(out: &mut Vec<u8>, why: OopsWhy) -> Result<(), NoMemory>
-    ensures text { OnOk result (out.new.items ≡ out.old.items ++ oops_word why) }
-    ensures kept { OnErr result (StaysInFront out.old.items out.new.items) }
+pub fn put_oops(out: &mut Paper, why: OopsWhy) -> Result<(), NoMemory>
+    ensures text { OnOk result (out.new.put ≡ out.old.put ++ oops_word why) }
+    ensures front { out.new.front ≡ out.old.front }
 {
-    put(out, OOPS)?;
-    put(out, why_word(why))
+    out.put(OOPS)?;
+    out.put(why_word(why))
 }
 
 /// Appends the number of an admission.
-pub fn put_admission(out: &mut Vec<u8>, number: u64) -> Result<(), NoMemory>
-    ensures text { OnOk result (out.new.items ≡ out.old.items ++ admission_word number) }
-    ensures kept { OnErr result (StaysInFront out.old.items out.new.items) }
+pub fn put_admission(out: &mut Paper, number: u64) -> Result<(), NoMemory>
+    ensures text { OnOk result (out.new.put ≡ out.old.put ++ admission_word number) }
+    ensures front { out.new.front ≡ out.old.front }
 {
-    put(out, ADMISSION)?;
-    put_number(out, number)
+    out.put(ADMISSION)?;
+    out.put_number(number)
 }
 
 /// An answer that is true or false.
@@ -107,17 +106,17 @@ pub fn wait_word(waits: bool) -> &'static [u8]
 }
 
 /// Appends the word `ready` and positions, each behind a space.
-pub fn put_ready(out: &mut Vec<u8>, positions: &[u8]) -> Result<(), NoMemory>
-    ensures text { OnOk result (out.new.items ≡ out.old.items ++ ready_word positions.now) }
-    ensures kept { OnErr result (StaysInFront out.old.items out.new.items) }
+pub fn put_ready(out: &mut Paper, positions: &[u8]) -> Result<(), NoMemory>
+    ensures text { OnOk result (out.new.put ≡ out.old.put ++ ready_word positions.now) }
+    ensures front { out.new.front ≡ out.old.front }
 {
-    put(out, READY)?;
+    out.put(READY)?;
     put_positions(out, positions)
 }
 
-fn put_positions(out: &mut Vec<u8>, positions: &[u8]) -> Result<(), NoMemory>
-    ensures text { OnOk result (out.new.items ≡ out.old.items ++ positions_text positions.now) }
-    ensures kept { OnErr result (StaysInFront out.old.items out.new.items) }
+fn put_positions(out: &mut Paper, positions: &[u8]) -> Result<(), NoMemory>
+    ensures text { OnOk result (out.new.put ≡ out.old.put ++ positions_text positions.now) }
+    ensures front { out.new.front ≡ out.old.front }
 {
     for position in positions {
         put_position(out, *position)?;
@@ -125,12 +124,12 @@ fn put_positions(out: &mut Vec<u8>, positions: &[u8]) -> Result<(), NoMemory>
     Ok(())
 }
 
-fn put_position(out: &mut Vec<u8>, position: u8) -> Result<(), NoMemory>
-    ensures text { OnOk result (out.new.items ≡ out.old.items ++ position_text position) }
-    ensures kept { OnErr result (StaysInFront out.old.items out.new.items) }
+fn put_position(out: &mut Paper, position: u8) -> Result<(), NoMemory>
+    ensures text { OnOk result (out.new.put ≡ out.old.put ++ position_text position) }
+    ensures front { out.new.front ≡ out.old.front }
 {
-    put(out, b" ")?;
-    put_number(out, u64::from(position))
+    out.put(b" ")?;
+    out.put_number(u64::from(position))
 }
 
 /// A call, as it is spelled in a scenario.

@@ -1,6 +1,5 @@
-ghost use Rattle.std.specs.Prelude.{◌≡◌, ◌∷◌, ◌++◌, map, drop, OnOk, OnErr};
+ghost use Rattle.std.specs.Prelude.{◌≡◌, ◌∷◌, ◌++◌, map, drop, OnOk};
 ghost use Rattle.zk_words.specs.Bytes.{space};
-ghost use Rattle.zk_trace.specs.Fronts.{StaysInFront};
 ghost use Rattle.zk_trace.specs.Parts.{each_behind};
 ghost use Rattle.zk_trace.specs.Work.{verb_word, said_of, op_words, admitted, submitted_parts, reply_parts, expiries_of, expiry_word, reply_words};
 ghost use Rattle.zk_trace.specs.Sized.{AreSized, IsSizedExpiry, IsSizedWork};
@@ -11,6 +10,7 @@ use crate::sizes::{Sizes, all_sizes};
 use crate::spelled::Spelled;
 use zk_base::NoMemory;
 use zk_model_work::{Expiry, Submitted, WorkOp, WorkReply};
+use zk_paper::Paper;
 use zk_scenario::Scenario;
 
 /// The byte between the words of a delay that ended.
@@ -173,7 +173,7 @@ fn expiries_of(reply: &WorkReply) -> &[Expiry]
 impl Spelled for WorkOp {
     ghost words = { op_words };
 
-    fn put_words(&self, out: &mut Vec<u8>, scenario: &Scenario) -> Result<(), NoMemory> {
+    fn put_words(&self, out: &mut Paper, scenario: &Scenario) -> Result<(), NoMemory> {
         let (verb, parts) = said_of(*self);
         put_said(out, scenario, verb_word(verb), &parts)
     }
@@ -182,16 +182,16 @@ impl Spelled for WorkOp {
 impl Spelled for WorkReply {
     ghost words = { reply_words };
 
-    fn put_words(&self, out: &mut Vec<u8>, scenario: &Scenario) -> Result<(), NoMemory> {
+    fn put_words(&self, out: &mut Paper, scenario: &Scenario) -> Result<(), NoMemory> {
         put_parts(out, scenario, b' ', &reply_parts(self))?;
         put_expiries(out, scenario, expiries_of(self))
     }
 }
 
-fn put_expiries(out: &mut Vec<u8>, scenario: &Scenario, expiries: &[Expiry]) -> Result<(), NoMemory>
-    ensures text { OnOk result (out.new.items ≡
-        out.old.items ++ each_behind space (map (expiry_word scenario.now.decls) expiries.now)) }
-    ensures kept { OnErr result (StaysInFront out.old.items out.new.items) }
+fn put_expiries(out: &mut Paper, scenario: &Scenario, expiries: &[Expiry]) -> Result<(), NoMemory>
+    ensures text { OnOk result (out.new.put ≡
+        out.old.put ++ each_behind space (map (expiry_word scenario.now.decls) expiries.now)) }
+    ensures front { out.new.front ≡ out.old.front }
 {
     for expiry in expiries {
         put_expiry(out, scenario, *expiry)?;
@@ -199,9 +199,9 @@ fn put_expiries(out: &mut Vec<u8>, scenario: &Scenario, expiries: &[Expiry]) -> 
     Ok(())
 }
 
-fn put_expiry(out: &mut Vec<u8>, scenario: &Scenario, expiry: Expiry) -> Result<(), NoMemory>
-    ensures text { OnOk result (out.new.items ≡ out.old.items ++ space ∷ expiry_word scenario.now.decls expiry) }
-    ensures kept { OnErr result (StaysInFront out.old.items out.new.items) }
+fn put_expiry(out: &mut Paper, scenario: &Scenario, expiry: Expiry) -> Result<(), NoMemory>
+    ensures text { OnOk result (out.new.put ≡ out.old.put ++ space ∷ expiry_word scenario.now.decls expiry) }
+    ensures front { out.new.front ≡ out.old.front }
 {
     put_part(out, scenario, b' ', &Part::Item(expiry.item))?;
     put_parts(out, scenario, COLON, &submitted_parts(expiry.submitted))
