@@ -1,5 +1,5 @@
 -- How often numbers stand in lists, and the greatest of them.
-use Rattle.std.proofs.Common.{◌≡◌, ◌≢◌, ◌⊎◌, inl, inr, ⊎_elim, ℕ, zero, suc, ◌+◌, ◌<◌, ◌≤◌, max, Bool, true, false, cond, ltb, List, [], ◌∷◌, ◌++◌, length, map, All, Contains, refl, sym, ap, subst, ◌∙◌, arith, eqb, eq-eqb, ne_eqb, le_trans, le_antisymm}
+use Rattle.std.proofs.Common.{◌≡◌, ◌≢◌, ⊎_elim, ℕ, zero, suc, ◌+◌, ◌<◌, ◌≤◌, max, Bool, true, false, cond, List, [], ◌∷◌, ◌++◌, length, map, All, Contains, refl, sym, ap, subst, ◌∙◌, arith, eqb, eq-eqb, ne_eqb, le_trans, le_antisymm}
 use Rattle.std.proofs.Math.Nat.{le-max_left, le-max_right, max-le, zero-max, max-eq_right}
 use Rattle.std.proofs.lemmas.Bool.{cases_lt, lt-ltb, le-ltb}
 use Rattle.std.proofs.lemmas.List.Elements.{All-nil, All-cons, All-append, All-head, All-tail, All-weaker}
@@ -59,10 +59,10 @@ pub once-more : (c n : ℕ) → once (c + 1) n ≡ once c n + equal n (c + 1)
 once-more c zero = let e = equal-else zero (c + 1) (λ e. omega arith) in omega arith
 once-more c (suc n) = ⊎_elim
     (λ lt.
-      let a = once-below (c + 1) n (omega arith) in
-      let b = once-below c n lt in
-      let e = equal-else (suc n) (c + 1) (λ e. omega arith) in
-      omega arith)
+    let a = once-below (c + 1) n (omega arith) in
+    let b = once-below c n lt in
+    let e = equal-else (suc n) (c + 1) (λ e. omega arith) in
+    omega arith)
     (λ le. at_or_above le (ℕ_discrete n c))
     (cases_lt n c)
   where
@@ -90,9 +90,9 @@ greatest-append (x ∷ a) b = ap (λ n. max x n) (greatest-append a b) ∙ three
   three : (k n m : ℕ) → max k (max n m) ≡ max (max k n) m
   three k n m = le_antisymm
       (max-le (le_trans (le-max_left k n) (le-max_left (max k n) m))
-        (max-le (le_trans (le-max_right k n) (le-max_left (max k n) m)) (le-max_right (max k n) m)))
+      (max-le (le_trans (le-max_right k n) (le-max_left (max k n) m)) (le-max_right (max k n) m)))
       (max-le (max-le (le-max_left k (max n m)) (le_trans (le-max_left n m) (le-max_right k (max n m))))
-        (le_trans (le-max_right n m) (le-max_right k (max n m))))
+      (le_trans (le-max_right n m) (le-max_right k (max n m))))
 
 -- a number behind the others that is no less than they
 pub greatest-push : (a : List ℕ) (n : ℕ) → greatest a ≤ n → greatest (a ++ n ∷ []) ≡ n
@@ -100,7 +100,8 @@ greatest-push a n le = greatest-append a (n ∷ [])
     ∙ max-eq_right (let up = le-max_left n 0 in let t : greatest a ≤ max n 0 = le_trans le up in t)
     ∙ le_antisymm (max-le (let r : n ≤ n = omega arith in r) (omega arith)) (le-max_left n 0)
 
-none-above : (a : List ℕ) → All (λ m. m ≤ greatest a) a
+-- none of the numbers is above the greatest
+pub none-above : (a : List ℕ) → All (λ m. m ≤ greatest a) a
 none-above [] = let P : ℕ → Type 0 = λ m. m ≤ 0 in All-nil P
 none-above (x ∷ a) =
     let P : ℕ → Type 0 = λ m. m ≤ max x (greatest a) in

@@ -1,5 +1,5 @@
 -- The rule at the end, where one seat stands for all players.
-use Rattle.std.proofs.Common.{◌≡◌, ◌⊎◌, inl, inr, ⊎_elim, ℕ, ◌+◌, ◌*◌, ◌<◌, ◌≤◌, List, length, map, get_or, sum_by, [], All, sym, ap, subst, ◌∙◌, arith}
+use Rattle.std.proofs.Common.{◌≡◌, ◌⊎◌, inl, inr, ⊎_elim, ℕ, ◌<◌, ◌≤◌, List, length, map, get_or, sum_by, [], All, ap, subst, ◌∙◌, arith}
 use Rattle.std.proofs.lemmas.List.{length-map}
 use Rattle.std.proofs.lemmas.List.Elements.{All-weaker, All-map}
 use Rattle.std.proofs.lemmas.Simd.{map-map}
@@ -7,7 +7,7 @@ use mathlib.Core.Option.{some}
 use lib.ListN.{get_elem?}
 use Rattle.atomic_table.specs.Table.{State, Final, Seen}
 use Rattle.zk_signal.specs.declared.views.View.{View}
-use Rattle.zk_signal.specs.Counts.{tally, once, EachOnceTo}
+use Rattle.zk_signal.specs.Counts.{tally, EachOnceTo}
 use Rattle.zk_signal.specs.Limits.{most_stamps}
 use Rattle.zk_signal.specs.Rule.{player_count, drawn_count, stamp_count, write_count, IsValue, SignalStands}
 use Rattle.zk_signal.specs.Words.{stamp_in, seen_in, stamp_of, IsValueIn}
@@ -36,15 +36,17 @@ ends players id v s r at idle all =
           omega arith;
       looks = All-weaker (IsValue s.views) (λ n. (n ≡ 0) ⊎ (0 < tally n v.writes))
           (λ n is. ⊎_elim (λ first. inl first)
-            (λ lt. let mine = only (write_count n) (λ u. let le = tally-le-length n u.writes in omega arith) in inr (omega arith)) is)
+          (λ lt. let mine = only (write_count n) (λ u. let le = tally-le-length n u.writes in omega arith) in inr (omega arith)) is)
           v.looks (r.each id v at).looks;
     }
   where
     alone : sum_by player_count s.views ≡ player_count v
     alone = let sum = r.players in omega arith
+
     only : (f : View → ℕ) → ((u : View) → f u ≤ drawn_count u) → sum_by f s.views ≡ f v
     only f below = sum-only f player_count s.views id v
         (λ j u there none_left. let le = below u in let room = (r.each j u there).room in omega arith) at alone
+
     stamps_below : (n : ℕ) (u : View) → stamp_count n u ≤ drawn_count u
     stamps_below n u =
         let one = tally-le-length n u.drawn in

@@ -1,5 +1,5 @@
 -- Two seats become one.
-use Rattle.std.proofs.Common.{◌≡◌, inl, inr, ⊎_elim, ℕ, ◌+◌, ◌≤◌, List, [], ◌∷◌, ◌++◌, length, map, set, get_or, sum_by, refl, sym, ap, subst, ◌∙◌, arith}
+use Rattle.std.proofs.Common.{◌≡◌, inl, inr, ⊎_elim, ℕ, ◌+◌, ◌≤◌, List, [], map, set, get_or, sum_by, sym, ap, subst, ◌∙◌, arith}
 use Rattle.std.proofs.Math.Nat.{max-le}
 use Rattle.std.proofs.lemmas.List.{length-append, map-append}
 use Rattle.std.proofs.lemmas.List.Elements.{All-append}
@@ -29,33 +29,39 @@ merges count id other v w s r at differ at_after =
       stamps = λ n. sums (stamp_count n)
           (let one = tally-append n v.drawn w.drawn in
           let two = ap (tally n) (map-append stamp_in v.writes w.writes)
-              ∙ tally-append n (map stamp_in v.writes) (map stamp_in w.writes) in
+          ∙ tally-append n (map stamp_in v.writes) (map stamp_in w.writes) in
           omega arith) ∙ r.stamps n;
       value = still (get_or s.words 0 0) r.value;
       tidy = r.tidy;
       each = λ j u there. ⊎_elim
           (λ q. subst Stands q.1 (fresh views (get_or s.words 0 0) []))
           (λ q. ⊎_elim (λ t. subst Stands t.1 both_stands) (λ t. others u (r.each j u t.1))
-            (at_set s.views id j (joined v w) u q.1))
+          (at_set s.views id j (joined v w) u q.1))
           (at_set (set s.views id (joined v w)) other j spent u there);
     }
   where
     views : List View
     views = set (set s.views id (joined v w)) other spent
+
     Stands : View → Type 0
     Stands x = SeatStands views (get_or s.words 0 0) x
+
     at_before : get_elem? s.views other ≡ some w
     at_before = sym (set_else s.views id other (joined v w) differ) ∙ at_after
+
     sums : (f : View → ℕ) → f (joined v w) + f spent ≡ f v + f w → sum_by f views ≡ sum_by f s.views
     sums f both =
         let one = sum-set f s.views id v (joined v w) at in
         let two = sum-set f (set s.views id (joined v w)) other w spent at_after in
         omega arith
+
     still : (n : ℕ) → IsValue s.views n → IsValue views n
     still n is = ⊎_elim (λ first. inl first)
         (λ lt. let sum = sums (write_count n) (let one = tally-append n v.writes w.writes in omega arith) in inr (omega arith)) is
+
     others : (u : View) → SeatStands s.views (get_or s.words 0 0) u → Stands u
     others u stands = still_stands s.views views (get_or s.words 0 0) (get_or s.words 0 0) u still (omega arith) stands
+
     both_stands : Stands (joined v w)
     both_stands =
         let a = others v (r.each id v at) in

@@ -1,11 +1,11 @@
-mod Counts
+pub mod Counts
 mod Dealing
 mod Ending
 mod Joining
 mod Keeping
 mod Moving
 pub mod Ordering
-mod Passes
+pub mod Passes
 mod Seats
 mod Starting
 mod Wording

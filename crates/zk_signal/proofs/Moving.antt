@@ -1,6 +1,5 @@
 -- A seat changes what it knows, and for the others the rule stays.
-use Rattle.std.proofs.Common.{◌≡◌, ◌≢◌, ◌⊎◌, inl, inr, ⊎_elim, ℕ, ◌+◌, ◌*◌, ◌<◌, ◌≤◌, List, length, set, get_or, sum_by, All, refl, sym, ap, subst, ◌∙◌, arith}
-use Rattle.std.proofs.lemmas.List.{get_or-set_other}
+use Rattle.std.proofs.Common.{◌≡◌, inl, inr, ⊎_elim, ℕ, ◌+◌, ◌≤◌, List, length, set, get_or, ap, subst, arith}
 use Rattle.std.proofs.lemmas.List.Elements.{All-weaker}
 use mathlib.Core.Option.{some}
 use lib.ListN.{get_elem?}
@@ -43,10 +42,10 @@ module _ (count : ℕ) (s : State ℕ View) (r : SignalStands count s) where
   value_drawn word is = ⊎_elim
       (λ first. let none = ap stamp_in first in omega arith)
       (λ lt.
-        let le = sum-below (write_count word) (stamp_count (stamp_in word)) s.views
-            (λ v. let mapped = tally-map stamp_in word v.writes in omega arith) in
-        let stamps = r.stamps (stamp_in word) in
-        once-within (get_or s.words 1 0) (stamp_in word) (omega arith))
+      let le = sum-below (write_count word) (stamp_count (stamp_in word)) s.views
+      (λ v. let mapped = tally-map stamp_in word v.writes in omega arith) in
+      let stamps = r.stamps (stamp_in word) in
+      once-within (get_or s.words 1 0) (stamp_in word) (omega arith))
       is
 
   -- a seat changes what it knows and stands for the same players
@@ -79,6 +78,6 @@ module _ (count : ℕ) (s : State ℕ View) (r : SignalStands count s) where
     each = λ j u there. ⊎_elim
         (λ t. subst (λ (x : View). SeatStands (set s.views id w) (get_or words 0 0) x) t.1 mine)
         (λ t. still_stands s.views (set s.views id w) (get_or s.words 0 0) (get_or words 0 0) u
-          (λ n is. still_value s.views id v w n at (kept n) is) up (r.each j u t.1))
+        (λ n is. still_value s.views id v w n at (kept n) is) up (r.each j u t.1))
         (at_set s.views id j w u there);
   }

@@ -1,10 +1,10 @@
 -- Writes in the order of their stamps: for whoever closes a signal and plays its writes.
-use Rattle.std.proofs.Common.{◌≡◌, ◌≢◌, ◌⊎◌, inl, inr, ⊎_elim, ℕ, zero, suc, ◌+◌, ◌<◌, ◌≤◌, List, [], ◌∷◌, length, map, get_or, All, Contains, IsPermutation, refl, sym, ap, subst, ◌∙◌, arith}
+use Rattle.std.proofs.Common.{◌≡◌, ◌≢◌, ⊎_elim, ℕ, zero, suc, ◌+◌, ◌<◌, ◌≤◌, List, [], ◌∷◌, length, map, get_or, Contains, IsPermutation, refl, sym, ap, ◌∙◌, arith}
 use Rattle.std.specs.List.Sorted.{IsNonDecreasingBy}
 use Rattle.std.proofs.lemmas.Bool.{cases_lt}
 use Rattle.std.proofs.lemmas.List.Sorted.{Contains-permutation}
 use native.Mathlib.Decide.{ℕ_discrete}
-use Rattle.zk_signal.specs.Counts.{equal, tally, once, EachOnceTo, CountsFrom}
+use Rattle.zk_signal.specs.Counts.{tally, once, EachOnceTo, CountsFrom}
 use Rattle.zk_signal.proofs.Counts.{equal-else, once-below}
 
 module _ {A : Type 0} (stamp : A → ℕ) where
@@ -49,10 +49,10 @@ module _ {A : Type 0} (stamp : A → ℕ) where
       (λ lt. let one = has k (omega arith) lt in let no_place = one.1.1 in absurd (omega arith)) (λ le. omega arith) (cases_lt k c)
   long_enough (y ∷ ys) k c up has = ⊎_elim
       (λ lt.
-        let first = first-le y ys (k + 1) up (has k (omega arith) lt) in
-        let rest = long_enough ys (k + 1) c (behind-up y ys up)
-            (λ n le less. has-behind y ys (n + 1) (λ e. omega arith) (has n (omega arith) less)) in
-        omega arith)
+      let first = first-le y ys (k + 1) up (has k (omega arith) lt) in
+      let rest = long_enough ys (k + 1) c (behind-up y ys up)
+      (λ n le less. has-behind y ys (n + 1) (λ e. omega arith) (has n (omega arith) less)) in
+      omega arith)
       (λ le. omega arith)
       (cases_lt k c)
 
@@ -63,14 +63,16 @@ module _ {A : Type 0} (stamp : A → ℕ) where
   in_order (y ∷ ys) k c up has long =
       let first = first-le y ys (k + 1) up (has k (omega arith) (omega arith)) in
       let at_first : stamp y ≡ k + 1 = ⊎_elim
-          (λ lt.
-            let more = long_enough ys k c (behind-up y ys up)
-                (λ n le less. has-behind y ys (n + 1) (λ e. omega arith) (has n le less)) in
-            absurd (omega arith))
-          (λ le. omega arith)
-          (cases_lt (stamp y) (k + 1)) in
-      (at_first, in_order ys (k + 1) c (behind-up y ys up)
-        (λ n le less. has-behind y ys (n + 1) (λ e. omega arith) (has n (omega arith) less)) (omega arith))
+      (λ lt.
+      let more = long_enough ys k c (behind-up y ys up)
+      (λ n le less. has-behind y ys (n + 1) (λ e. omega arith) (has n le less)) in
+      absurd (omega arith))
+      (λ le. omega arith)
+      (cases_lt (stamp y) (k + 1)) in (
+        at_first,
+        in_order ys (k + 1) c (behind-up y ys up)
+            (λ n le less. has-behind y ys (n + 1) (λ e. omega arith) (has n (omega arith) less)) (omega arith),
+      )
 
   -- all writes, sorted by their stamps
   pub sorted-counts : (xs ys : List A) → EachOnceTo (length xs) (map stamp xs) → IsPermutation xs ys →

@@ -1,7 +1,8 @@
 -- What passes know after a call.
-use Rattle.std.proofs.Common.{◌≡◌, ℕ, ◌+◌, ◌<◌, ◌≤◌, max, List, [], ◌∷◌, ◌++◌, map, refl, sym, ap, subst, ◌∙◌, arith}
+use Rattle.std.proofs.Common.{◌≡◌, ℕ, ◌+◌, ◌<◌, ◌≤◌, List, [], ◌∷◌, ◌++◌, map, All, sym, ap, subst, ◌∙◌, arith}
 use Rattle.std.proofs.Math.Nat.{le-max_left}
 use Rattle.std.proofs.lemmas.List.{map-append}
+use Rattle.std.proofs.lemmas.List.Elements.{All-weaker}
 use Rattle.std.proofs.lemmas.Simd.{map-map}
 use Rattle.atomic_table.specs.Table.{Me}
 use Rattle.zk_base.specs.declared.seen.Seen.{Seen}
@@ -12,7 +13,7 @@ use Rattle.zk_signal.specs.Counts.{Rises, greatest}
 use Rattle.zk_signal.specs.Passes.{Wrote, Looked, IsNewPass, AreNewPasses, pass_writes, pass_stamps, pass_top}
 use Rattle.zk_signal.specs.Views.{drawing, settled, looked, top_of}
 use Rattle.zk_signal.specs.Words.{seen_in, stamp_in, stamp_of}
-use Rattle.zk_signal.proofs.Counts.{Rises-push}
+use Rattle.zk_signal.proofs.Counts.{none-above, Rises-push}
 use Rattle.zk_signal.proofs.Wording.{top-settled, top-looked}
 
 -- a write whose stamp is above all that the pass had written or read
@@ -46,15 +47,26 @@ has_looked old new word seen now is newer room =
       writes = ap (λ (m : Me ℕ View). map seen_in m.0.writes) now;
     }
 
+greatest-le-top : (p : SigPass) → greatest (pass_stamps p) ≤ pass_top p
+greatest-le-top p =
+    let writes = p.seat.me.0.writes in
+    let stamps : pass_stamps p ≡ map stamp_in writes = map-map stamp_of seen_in writes in
+    subst (λ (l : List ℕ). greatest l ≤ pass_top p) (sym stamps)
+    (le-max_left (greatest (map stamp_in writes)) (greatest (map stamp_in p.seat.me.0.looks)))
+
+-- none of the stamps of a pass is above its top
+pub none-above-top : (p : SigPass) → All (λ n. n ≤ pass_top p) (pass_stamps p)
+none-above-top p =
+    let Below : ℕ → Type 0 = λ n. n ≤ greatest (pass_stamps p) in
+    let Under : ℕ → Type 0 = λ n. n ≤ pass_top p in
+    let le = greatest-le-top p in
+    All-weaker Below Under (λ n below. omega arith) (pass_stamps p) (none-above (pass_stamps p))
+
 -- the stamps of a pass rise on with that of a write
 pub rises_on : (old new : SigPass) (seen : Seen) → Wrote old new seen → pass_top old < seen.stamp →
     Rises (pass_stamps old) → Rises (pass_stamps new)
 rises_on old new seen wrote above up =
-    let writes = old.seat.me.0.writes in
-    let looks = old.seat.me.0.looks in
-    let stamps : pass_stamps old ≡ map stamp_in writes = map-map stamp_of seen_in writes in
-    let below : greatest (pass_stamps old) ≤ pass_top old = subst (λ (l : List ℕ). greatest l ≤ pass_top old) (sym stamps)
-        (le-max_left (greatest (map stamp_in writes)) (greatest (map stamp_in looks))) in
+    let below = greatest-le-top old in
     subst Rises (sym (ap (map stamp_of) wrote.writes ∙ map-append stamp_of (pass_writes old) (seen ∷ [])))
     (Rises-push (pass_stamps old) seen.stamp up (omega arith))
 

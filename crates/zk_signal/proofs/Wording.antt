@@ -1,9 +1,8 @@
 -- What words say, and the stamps of those that a seat has.
-use Rattle.std.proofs.Common.{◌≡◌, ℕ, ◌+◌, ◌*◌, ◌/◌, ◌%◌, ◌<◌, ◌≤◌, ◌==◌, max, Bool, true, false, List, [], ◌∷◌, ◌++◌, map, refl, sym, ap, subst, ◌∙◌, arith, eq-eqb, ne_eqb, le_trans, le_antisymm}
+use Rattle.std.proofs.Common.{◌≡◌, ℕ, ◌+◌, ◌*◌, ◌/◌, ◌%◌, ◌<◌, ◌≤◌, max, Bool, true, false, [], ◌∷◌, ◌++◌, map, sym, ap, subst, ◌∙◌, arith, eq-eqb, ne_eqb, le_trans, le_antisymm}
 use Rattle.std.proofs.Math.Nat.{le-max_left, le-max_right, max-le, max-eq_left, max-eq_right}
 use Rattle.std.proofs.lemmas.Nat.{le-div, div-add-mod'}
 use Rattle.std.proofs.lemmas.List.{map-append}
-use Rattle.zk_base.specs.declared.seen.Seen.{Seen}
 use Rattle.zk_signal.specs.declared.views.View.{View}
 use Rattle.zk_signal.specs.Counts.{greatest}
 use Rattle.zk_signal.specs.Views.{settled, looked, joined, top_of}
@@ -46,7 +45,7 @@ top-settled v word above =
     let a = le-max_left (greatest (map stamp_in v.writes)) (greatest (map stamp_in v.looks)) in
     let b = le-max_right (greatest (map stamp_in v.writes)) (greatest (map stamp_in v.looks)) in
     let mine = ap greatest (map-append stamp_in v.writes (word ∷ []))
-        ∙ greatest-push (map stamp_in v.writes) (stamp_in word) (le_trans a above) in
+    ∙ greatest-push (map stamp_in v.writes) (stamp_in word) (le_trans a above) in
     ap (λ n. max n (greatest (map stamp_in v.looks))) mine ∙ max-eq_left (le_trans b above)
 
 -- a look that isn't older than all that the seat has written or found
@@ -55,7 +54,7 @@ top-looked v word above =
     let a = le-max_left (greatest (map stamp_in v.writes)) (greatest (map stamp_in v.looks)) in
     let b = le-max_right (greatest (map stamp_in v.writes)) (greatest (map stamp_in v.looks)) in
     let mine = ap greatest (map-append stamp_in v.looks (word ∷ []))
-        ∙ greatest-push (map stamp_in v.looks) (stamp_in word) (le_trans b above) in
+    ∙ greatest-push (map stamp_in v.looks) (stamp_in word) (le_trans b above) in
     ap (λ n. max (greatest (map stamp_in v.writes)) n) mine ∙ max-eq_right (le_trans a above)
 
 pub top-joined : (v w : View) → top_of (joined v w) ≡ max (top_of v) (top_of w)

@@ -4,7 +4,7 @@ ghost use Rattle.zk_signal.specs.Passes.{IsPassOf, Looked, pass_top};
 use crate::pass::SigPass;
 use crate::rule::Look;
 use crate::signal::{SharedSignal, WORD};
-use crate::words::seen_in;
+use crate::words::{is_raised_in, seen_in};
 use zk_base::Seen;
 
 impl SharedSignal {
@@ -22,5 +22,12 @@ impl SharedSignal {
     {
         let word = self.table.shared.load::<Look>(&mut pass.seat, WORD);
         seen_in(word)
+    }
+
+    /// Whether the newest write that has settled was a raise, by one load and without a pass.
+    ///
+    /// It is a hint, for whoever wants to know whether a look is worth its while: another write may come at any moment.
+    pub fn is_raised(&self) -> bool {
+        is_raised_in(self.table.shared.peek(WORD))
     }
 }

@@ -18,10 +18,7 @@ impl SharedSignal {
     /// A signal before the first write, which isn't raised, and one pass for each player, in order.
     ///
     /// There are at most 256 players.
-    pub fn new(
-        alloc: Global,
-        players: &[u32],
-    ) -> Result<(SharedSignal, Vec<SigPass>), NoMemory>
+    pub fn new(alloc: Global, players: &[u32]) -> Result<(SharedSignal, Vec<SigPass>), NoMemory>
         requires few { length players.now ≤ most_players }
         ensures players { IfOk result (λ made. players_in made.0 ≡ players.now) }
         ensures passes { IfOk result (λ made. AreNewPasses made.0 players.now made.1.items) }

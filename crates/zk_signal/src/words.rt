@@ -19,13 +19,20 @@ pub(crate) fn word_of(seen: &Seen) -> u64
     STAMP * u64::from(seen.stamp) + mark + u64::from(seen.result)
 }
 
+/// Whether a word has the mark.
+pub(crate) fn is_raised_in(word: u64) -> bool
+    ensures { result ≡ (seen_in word).raised }
+{
+    word / MARK % 2 == 1
+}
+
 /// What a word says.
 pub(crate) fn seen_in(word: u64) -> Seen
     requires { stamp_in word ≤ most_stamps }
     ensures { result ≡ seen_in word }
 {
     Seen {
-        raised: word / MARK % 2 == 1,
+        raised: is_raised_in(word),
         result: (word % MARK) as u16,
         stamp: (word / STAMP) as u32,
     }

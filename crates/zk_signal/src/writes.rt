@@ -48,7 +48,10 @@ impl SharedSignal {
         ensures wrote { Wrote pass.old pass.new (written raised value result) }
         ensures rise { Rises (pass_stamps pass.old) → Rises (pass_stamps pass.new) }
     {
-        let drawn = self.table.shared.fetch_add::<Draw>(&mut pass.seat, COUNTER, 1);
+        let drawn = self
+            .table
+            .shared
+            .fetch_add::<Draw>(&mut pass.seat, COUNTER, 1);
         let stamp = (drawn + 1) as u32;
         let word = word_of(&Seen {
             raised,

@@ -83,14 +83,42 @@ fn two_threads_raise(rt: HostRuntime) -> Result<(), Fail> {
 fn a_look_shows_what_another_wrote(rt: HostRuntime) -> Result<(), Fail> {
     let (signal, passes) = SharedSignal::new(rt.alloc(), &[0, 1])?;
     let (mut first, mut second) = two_passes(&signal, passes);
-    assert_eq!(rt; signal.look(&mut second), Seen { raised: false, result: 0, stamp: 0 });
+    assert_eq!(rt;
+        signal.look(&mut second),
+        Seen {
+            raised: false,
+            result: 0,
+            stamp: 0
+        }
+    );
     assert_eq!(rt; signal.raise(&mut first, 7), 1);
-    assert_eq!(rt; signal.look(&mut second), Seen { raised: true, result: 7, stamp: 1 });
+    assert_eq!(rt;
+        signal.look(&mut second),
+        Seen {
+            raised: true,
+            result: 7,
+            stamp: 1
+        }
+    );
     assert_eq!(rt; signal.clear(&mut second), 2);
-    assert_eq!(rt; signal.look(&mut first), Seen { raised: false, result: 0, stamp: 2 });
+    assert_eq!(rt;
+        signal.look(&mut first),
+        Seen {
+            raised: false,
+            result: 0,
+            stamp: 2
+        }
+    );
     assert_eq!(rt; signal.raise(&mut second, 65_535), 3);
     assert_eq!(rt; signal.raise(&mut first, 0), 4);
-    assert_eq!(rt; signal.look(&mut second), Seen { raised: true, result: 0, stamp: 4 });
+    assert_eq!(rt;
+        signal.look(&mut second),
+        Seen {
+            raised: true,
+            result: 0,
+            stamp: 4
+        }
+    );
     assert_eq!(rt;
         (first.room(), second.room()),
         (19_998, 19_998),

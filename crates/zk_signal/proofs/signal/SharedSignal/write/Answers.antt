@@ -1,7 +1,6 @@
 use Rattle.std.proofs.Common.{◌≡◌, ℕ, ◌+◌, ◌-◌, ◌<◌, [], ◌∷◌, length, sym, ap, subst, ◌∙◌, arith}
 use Rattle.atomic_table.specs.Table.{Me}
 use Rattle.zk_signal.specs.declared.views.View.{View}
-use Rattle.zk_signal.specs.Passes.{pass_top}
 use Rattle.zk_signal.specs.Views.{settled}
 use Rattle.zk_signal.specs.Words.{stamp_in, stamp_of, seen_in, IsTidy, written}
 use Rattle.zk_signal.proofs.Keeping.{draws, settles}
@@ -34,7 +33,7 @@ fetch_max-requires c =
     let is = c.word_of-word.ensures in
     let at_stamp : stamp_in word ≡ stamp = ap stamp_in is ∙ ap stamp_of (seen_in-word c.args.raised c.args.value stamp small) in
     let tidy : IsTidy (seen_in word) =
-        subst (λ (n : ℕ). IsTidy (seen_in n)) (sym is) (tidy-word c.args.raised c.args.value stamp small c.requires.tidy) in (
+    subst (λ (n : ℕ). IsTidy (seen_in n)) (sym is) (tidy-word c.args.raised c.args.value stamp small c.requires.tidy) in (
       drew.0 ∙ c.requires.own.table,
       wide,
       settles (length shared.key.players.items) shared.table_id.slots seat.id seat.me word
