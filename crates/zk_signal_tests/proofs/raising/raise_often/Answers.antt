@@ -1,7 +1,6 @@
-use Rattle.std.proofs.Common.{◌≡◌, ℕ, ◌+◌, ◌≤◌, List, [], ◌∷◌, ◌++◌, length, map, sym, ap, subst, ◌∙◌, arith}
+use Rattle.std.proofs.Common.{ℕ, List, [], ◌∷◌, ◌++◌, length, map, sym, ap, ◌∙◌, arith}
 use Rattle.std.proofs.lemmas.List.{length-append, map-append}
-use Rattle.zk_base.specs.declared.seen.Seen.{Seen}
-use Rattle.zk_signal.specs.Passes.{pass_writes, pass_stamps}
+use Rattle.zk_signal.specs.Passes.{pass_writes}
 use Rattle.zk_signal.specs.Words as words
 use Rattle.zk_signal_tests.specs.declared.raising.Raised.{Raised}
 use Rattle.zk_signal_tests.specs.Raising.{stamp_of}
