@@ -1,11 +1,21 @@
 //! The shared kernel as its callers use it, on one thread and on many, and the tests of it.
 #![tactic(auto)]
 
+#[cfg(test)]
+mod call_tests;
+#[cfg(test)]
+mod moves;
 mod ones;
 mod parts;
+#[cfg(test)]
+mod played;
+#[cfg(test)]
+mod round_tests;
 mod rounds;
 #[cfg(test)]
 mod scenarios;
+#[cfg(test)]
+mod texts;
 #[cfg(test)]
 mod thread_tests;
 

@@ -1,18 +1,61 @@
-//! The scenarios that the tests play, and what is asked of their traces.
-ghost use Rattle.std.specs.Prelude.{◌≡◌, IfOk};
-ghost use Rattle.zk_kernel.specs.Rests.{AreAllCallers};
-
-use crate::finish;
+//! The texts of the scenarios that the tests play. Each stands in a function of its own, since it makes goals slow.
 use std::alloc::Global;
-use std::test::Fail;
 use zk_base::NoMemory;
-use zk_check::{Checked, check};
-use zk_kernel::{Caller, Kernel};
-use zk_scenario::{Scenario, read_scenario};
-use zk_trace::Trace;
 
-/// More rounds than any of these scenarios has steps.
-pub const MOST_ROUNDS: u32 = 10_000;
+/// The README's: a cancel of an item that runs, and of one that waits.
+pub fn cancelled() -> &'static [u8] {
+    b"zk 1\nthread button 0 super\nthread radio 3 super\nqueue sys -1 on\nitem debounce\nitem report\n\
+    script button\nsubmit debounce sys\ncancel debounce\nsubmit debounce sys\nend\n\
+    script radio\nsubmit report sys\nsubmit debounce sys\ncancel report\nend\n"
+}
+
+/// Two threads that hand a flash and a bus to each other, and a worker with one item.
+pub fn handed() -> &'static [u8] {
+    b"zk 1\nthread radio 0 super\nthread logger 0 super\nqueue q0 1 on\nitem w0\nsem bus 0 1\nsem flash 0 1\n\
+    msgq m0 2 2\nsignal g0\nscript radio\ngive bus\nput m0 0a0b no\nraise g0 7\nsubmit w0 q0\ntake flash forever\nend\n\
+    script logger\ntake bus forever\nget m0 forever\npoll forever sig:g0\ngive flash\ncount bus\nend\n"
+}
+
+/// All kinds of objects together: a publish whose listener submits, a poll with ticks, a user with two permissions, a drain.
+pub fn every() -> &'static [u8] {
+    b"zk 1\nthread main 0 super\nthread sensor 3 super\nthread logger 10 user\nqueue sys -1 on\n\
+    item report\nmsgq log 4 16\nsem done 0 8\nsignal ready\nlistener onsample\nsub store 16\n\
+    chan sample 4 00000000 any onsample store\nallow logger log\nallow logger done\n\
+    script main\npoll 30 sig:ready sem:done\ntick 40\ntake done 5\ntick 5\ndrain sys open\ncancelsync report\nbusy report\nend\n\
+    script sensor\npublish sample 00000015 forever\nraise ready 7\nsubwait store forever\nput log 736d706c no\ncheck ready\nend\n\
+    script logger\nget log forever\ngive done\nend\nscript report\nread sample forever\nend\n\
+    script onsample\nsubmit report sys\nend\n"
+}
+
+/// One thread whose every call is answered at once.
+pub fn alone() -> &'static [u8] {
+    b"zk 1\nthread main 0 super\nsem done 0 2\nsignal ready\nscript main\ngive done\ntake done no\ntake done no\n\
+    raise ready 7\ncheck ready\ncount done\nend\n"
+}
+
+/// A user without permission on what it asks for.
+pub fn failing() -> &'static [u8] {
+    b"zk 1\nthread guest 0 user\nthread main 0 super\nsem done 0 2\nsem over 0 2\nallow guest over\nscript guest\n\
+    give over\ngive done\ngive over\nend\nscript main\ncount over\nend\n"
+}
+
+/// Two threads that submit the same item, and a third that looks at it.
+pub fn looked_at() -> &'static [u8] {
+    b"zk 1\nthread first 0 super\nthread second 0 super\nthread watcher 0 super\nqueue sys 0 on\nitem report\n\
+    script first\nsubmit report sys\nend\nscript second\nsubmit report sys\nend\nscript watcher\nbusy report\nbusy report\nend\n"
+}
+
+/// A thread that takes what another gives after its first try.
+pub fn taken() -> &'static [u8] {
+    b"zk 1\nthread taker 0 super\nthread giver 0 super\nsem done 0 2\nscript taker\ntake done forever\nend\n\
+    script giver\ngive done\nend\n"
+}
+
+/// A take whose ticks another thread announces.
+pub fn timed() -> &'static [u8] {
+    b"zk 1\nthread waiter 0 super\nthread ticker 0 super\nsem never 0 1\nscript waiter\ntake never 5\nend\n\
+    script ticker\ntick 3\ntick 3\nend\n"
+}
 
 /// Two threads that give a semaphore a hundred times each.
 pub fn hundred_gives(alloc: Global) -> Result<Vec<u8>, NoMemory> {
@@ -28,41 +71,17 @@ pub fn hundred_gives(alloc: Global) -> Result<Vec<u8>, NoMemory> {
     Ok(text)
 }
 
-/// A kernel of a scenario, and its callers.
-pub fn kernel_of(alloc: Global, scenario: &Scenario) -> Result<(Kernel, Vec<Caller>), Fail>
-    ensures all { IfOk result (λ made. AreAllCallers made.0 made.1.items) }
-    ensures scenario { IfOk result (λ made. made.0.scenario ≡ scenario.now) }
-{
-    if scenario.players() == 0 {
-        return Err(Fail::from("no players"));
+/// One call, and then as many polls of eight events as make all the steps that a player may make.
+pub fn spender(alloc: Global) -> Result<Vec<u8>, NoMemory> {
+    let mut text = Vec::new(alloc);
+    text.extend_from_slice(b"zk 1\nthread main 0 super\nsem done 0 1\nscript main\ncount done\n")?;
+    for _ in 0..2_500 {
+        text.extend_from_slice(
+            b"poll no sem:done sem:done sem:done sem:done sem:done sem:done sem:done sem:done\n",
+        )?;
     }
-    Ok(Kernel::new(alloc, scenario)?)
-}
-
-pub fn scenario(alloc: Global, text: &[u8]) -> Result<Scenario, Fail> {
-    match read_scenario(alloc, text) {
-        Ok(scenario) => Ok(scenario),
-        Err(_) => Err(Fail::from("no scenario")),
-    }
-}
-
-/// Callers' kernel is closed, what is left is played on to its end, and its trace is lawful, or the test fails.
-pub fn lawful(
-    alloc: Global,
-    scenario: &Scenario,
-    kernel: Kernel,
-    callers: Vec<Caller>,
-) -> Result<Trace, Fail>
-    requires same { kernel.scenario ≡ scenario.now }
-    requires all { AreAllCallers kernel callers.items }
-{
-    let mut rest = kernel.close(alloc, callers)?;
-    finish(&mut rest, MOST_ROUNDS)?;
-    let trace = rest.trace(alloc)?;
-    match check(alloc, scenario, &trace)? {
-        Checked::Lawful => Ok(trace),
-        Checked::Not(_, _) => Err(Fail::from("not lawful")),
-    }
+    text.extend_from_slice(b"end\n")?;
+    Ok(text)
 }
 
 /// Sixteen threads that take a semaphore, and one that gives it to them one by one.

@@ -1,52 +1,61 @@
 //! Players on threads: however their steps fall, the trace is lawful.
-use crate::play_each;
-use crate::scenarios::{hundred_gives, kernel_of, lawful, scenario, sixteen_takers};
+use crate::moves::Move;
+use crate::played::played;
+use crate::scenarios::{cancelled, every, handed, hundred_gives, sixteen_takers};
+use crate::texts::rising_steps;
+use std::alloc::Global;
+use std::sync::Wait;
 use std::test::Fail;
-use zk_trace::Trace;
+use std::thread::Threads;
 
-/// Whether each player's entries stand in its order, and whether there are so many of each of the first players.
-fn are_in_order(trace: &Trace, object: usize, of_each: &[u32]) -> bool {
-    let Some(history) = trace.sems.items().get(object) else {
-        return false;
-    };
-    for number in 0..of_each.len() {
-        let mut count: u32 = 0;
-        let mut below: u32 = 0;
-        for entry in history.items() {
-            if entry.who.number as usize != number {
-                continue;
-            }
-            if entry.step < below {
-                return false;
-            }
-            below = entry.step.saturating_add(1);
-            count = count.saturating_add(1);
-        }
-        if count != of_each[number] {
-            return false;
-        }
+/// How often each scenario is played.
+const TIMES: u32 = 200;
+
+/// Each player of a scenario in a thread of its own, again and again.
+fn play_often<R: Threads + Wait + Sync>(rt: &R, alloc: Global, text: &[u8]) -> Result<(), Fail> {
+    for _ in 0..TIMES {
+        played(rt, alloc, text, &[Move::Each(false)])?;
     }
-    true
-}
-
-#[test]
-fn two_threads_give_a_hundred_times_each(rt: HostRuntime) -> Result<(), Fail> {
-    let scenario = scenario(rt.alloc(), &hundred_gives(rt.alloc())?)?;
-    let (kernel, mut callers) = kernel_of(rt.alloc(), &scenario)?;
-    play_each(&rt, &kernel, &mut callers, true);
-    let trace = lawful(rt.alloc(), &scenario, kernel, callers)?;
-    assert!(rt; are_in_order(&trace, 2, &[100, 100]));
     Ok(())
 }
 
 #[test]
+fn two_threads_give_a_hundred_times_each(rt: HostRuntime) -> Result<(), Fail> {
+    let report = played(
+        &rt,
+        rt.alloc(),
+        &hundred_gives(rt.alloc())?,
+        &[Move::Each(true)],
+    )?;
+    assert!(rt; report.stand.as_slice() == b"tt".as_slice());
+    assert!(rt; rising_steps(&report.text, b"t0.") == Some(100));
+    assert!(rt; rising_steps(&report.text, b"t1.") == Some(100));
+    Ok(())
+}
+
+#[test]
+fn the_first_scenario_in_threads(rt: HostRuntime) -> Result<(), Fail> {
+    play_often(&rt, rt.alloc(), cancelled())
+}
+
+#[test]
+fn waits_in_threads(rt: HostRuntime) -> Result<(), Fail> {
+    play_often(&rt, rt.alloc(), handed())
+}
+
+#[test]
+fn every_kind_of_service_in_threads(rt: HostRuntime) -> Result<(), Fail> {
+    play_often(&rt, rt.alloc(), every())
+}
+
+#[test]
 fn sixteen_callers_wait_and_are_served(rt: HostRuntime) -> Result<(), Fail> {
-    let scenario = scenario(rt.alloc(), &sixteen_takers(rt.alloc())?)?;
-    let (kernel, mut callers) = kernel_of(rt.alloc(), &scenario)?;
-    play_each(&rt, &kernel, &mut callers, true);
-    for caller in &callers {
-        assert!(rt; caller.lives() && caller.next_call(&kernel).is_none());
-    }
-    lawful(rt.alloc(), &scenario, kernel, callers)?;
+    let report = played(
+        &rt,
+        rt.alloc(),
+        &sixteen_takers(rt.alloc())?,
+        &[Move::Each(true)],
+    )?;
+    assert!(rt; report.stand.as_slice() == b"ttttttttttttttttt".as_slice());
     Ok(())
 }

@@ -1,7 +1,7 @@
 use Rattle.std.proofs.Common.{◌≡◌, subst, ◌∙◌}
 use Rattle.zk_scenario.specs.Content.{Content}
 use Rattle.zk_trace.specs.Form.{IsInForm}
-use Rattle.zk_kernel_tests.proofs.scenarios.lawful.Goals as goal
+use Rattle.zk_kernel_tests.proofs.played.lawful_text.Goals as goal
 
 pub check-requires : goal.check-requires
 check-requires c = record {
