@@ -2,6 +2,7 @@ ghost use Rattle.std.specs.Prelude.{◌≡◌, ◌<◌, All, map, vec_len};
 ghost use Rattle.zk_cores.specs.Shares.{numbers_in, AreOwn};
 
 use crate::share::Share;
+use std::hint;
 use std::sync::Wait;
 use std::thread::{self, Threads};
 use zk_base::{Gate, NoMemory};
@@ -10,6 +11,12 @@ use zk_worker::Stepped;
 
 /// A core goes on after so many rounds in a row in which none of its players made a step, and ends with the next such one.
 const STILL_ROUNDS: u32 = 63;
+
+/// How often its processor pauses after such a round, times their number so far.
+const PAUSES: u32 = 20;
+
+/// It lets other threads run after each so manieth of them.
+const STILL_TURNS: u32 = 4;
 
 /// Plays a caller once: what came of it, or nothing where it waits and has no news, and so is passed over.
 fn play_caller<R: Wait, G: Gate>(
@@ -56,8 +63,7 @@ fn play_round<R: Wait, G: Gate>(
     Ok(moved)
 }
 
-/// Plays a share as far as it gets. Between two rounds without a step it lets others run, the longer the more such rounds there
-/// were.
+/// Plays a share as far as it gets. After a round without a step it looks away, the longer the more such rounds there were.
 fn play_share<R: Wait, G: Gate>(rt: &R, kernel: &Kernel, gate: &G, share: &mut Share)
     requires own { AreOwn kernel.now share.old }
     ensures own { AreOwn kernel.now share.new }
@@ -80,9 +86,15 @@ fn play_share<R: Wait, G: Gate>(rt: &R, kernel: &Kernel, gate: &G, share: &mut S
     }
 }
 
-/// Lets others run, so many times.
-fn pause(times: u32) {
-    for _ in 0..times {
+/// Looks away after a round without a step, which was that of this number, and now and then lets other threads run: each time it
+/// does, a program beside that wants the processor may keep it for milliseconds.
+fn pause(number: u32) {
+    for _ in 0..number {
+        for _ in 0..PAUSES {
+            hint::spin_loop();
+        }
+    }
+    if number % STILL_TURNS == 0 {
         thread::yield_now();
     }
 }
