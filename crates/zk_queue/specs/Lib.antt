@@ -1,3 +1,5 @@
 pub mod Places
 pub mod Line
 pub mod Open
+pub mod Ring
+pub mod Words

@@ -29,11 +29,6 @@ abbrev pub Rises : List Ticket → Type 0
 Rises [] = Unit {0}
 Rises (t ∷ ts) = All (λ later. t.number < later.number) ts × Rises ts
 
--- what a contract sees of a queue's line: its tickets, lowest number first, and how many it takes without memory
-pub record LineView : Type 0 where
-  pub tickets : List Ticket
-  pub capacity : ℕ
-
 -- what a contract sees of all lines: how many items there are, and what waits for each queue, lowest number first
 pub record InLine : Type 0 where
   pub items : ℕ

@@ -5,8 +5,13 @@ use Rattle.std.specs.Option.{option_map_or}
 use Rattle.zk_model_work.specs.Lists.{first}
 use Rattle.zk_model_work.specs.Questions.{busy_flags}
 use Rattle.zk_queue.specs.declared.ticket.Ticket.{Ticket}
-use Rattle.zk_queue.specs.declared.marks.ItemMarks.{ItemMarks}
 use Rattle.zk_queue.specs.Line.{is_of, has_number, without, number_among}
+
+-- the busy flags of an item that don't follow from its admissions
+pub record ItemMarks : Type 0 where
+  pub cancelling : Bool
+  pub delayed : Bool
+  pub flushing : Bool
 
 -- the open admissions: how many items and queues there are, what waits for each queue, lowest number first,
 -- what each queue runs, and the marks of each item

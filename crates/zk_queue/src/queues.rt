@@ -4,41 +4,34 @@ ghost use Rattle.zk_queue.specs.Open.{nothing_open, line, run, is_queued, IsAbov
 
 use crate::copies::copies;
 use crate::waiting::Waiting;
-use crate::{ItemMarks, Ticket, runs};
+use crate::words::marked;
+use crate::{Ticket, runs};
+use bitflags::Flags;
 use std::alloc::Global;
 use std::marker::Model;
 use zk_base::NoMemory;
-use zk_model_work::{BusyFlags, united};
+use zk_model_work::BusyFlags;
 
 /// The open admissions of the work service: what waits for each queue, what each queue runs, and
-/// the marks of each item.
+/// one word for each item, its busy flags.
 ///
 /// Queues and items are numbers below those that `new` was given.
 #[derive(Drop)]
 pub struct Queues {
     waiting: Waiting,
     runs: Vec<Option<Ticket>>,
-    marks: Vec<ItemMarks>,
+    words: Vec<BusyFlags>,
 }
 
 impl Model for Queues {
-    ghost use Rattle.std.specs.Prelude.{◌≡◌, length};
     ghost use Rattle.zk_queue.specs.Open.{Open};
+    ghost use Rattle.zk_queue.specs.Words.{open_of, AreKept};
 
     ghost Value = { Open };
 
-    ghost view = { λ a. record {
-      items = length a.marks.items;
-      queues = length a.runs.items;
-      lines = a.waiting.lines;
-      runs = a.runs.items;
-      marks = a.marks.items;
-    } };
+    ghost view = { λ a. open_of a.waiting.lines a.runs.items a.words.items };
 
-    ghost invariant = { λ a. record {
-      items : a.waiting.items ≡ length a.marks.items;
-      queues : length a.waiting.lines ≡ length a.runs.items;
-    } };
+    ghost invariant = { λ a. AreKept a.waiting a.runs.items a.words.items };
 }
 
 impl Queues {
@@ -50,16 +43,11 @@ impl Queues {
     {
         let waiting = Waiting::new(alloc, items, queues)?;
         let runs = copies(alloc, None, queues)?;
-        let unmarked = ItemMarks {
-            cancelling: false,
-            delayed: false,
-            flushing: false,
-        };
-        let marks = copies(alloc, unmarked, items)?;
+        let words = copies(alloc, BusyFlags::empty(), items)?;
         Ok(Queues {
             waiting,
             runs,
-            marks,
+            words,
         })
     }
 
@@ -68,14 +56,7 @@ impl Queues {
         requires { item < self.now.items }
         ensures { result.0 ≡ flags self.now item }
     {
-        let marks = self.marks[item as usize];
-        united(
-            runs::is_any_of(&self.runs, item),
-            marks.cancelling,
-            self.waiting.has(item),
-            marks.delayed,
-            marks.flushing,
-        )
+        self.words[item as usize]
     }
 
     /// The number of the admission by which the item waits, if it waits.
@@ -107,7 +88,8 @@ impl Queues {
         requires { item < self.old.items }
         ensures { self.new ≡ mark self.old item bits.0 }
     {
-        self.marks[item as usize] = ItemMarks::among(bits);
+        let word = self.words[item as usize];
+        self.words[item as usize] = marked(word, bits);
     }
 
     /// The item waits for the queue, behind all that wait already: the numbers of admissions rise.
@@ -119,6 +101,7 @@ impl Queues {
         ensures { self.new ≡ admit self.old item queue number }
     {
         self.waiting.admit(item, queue, number);
+        self.words[item as usize].insert(BusyFlags::QUEUED);
     }
 
     /// The item waits no longer. The number of its admission, if it waited.
@@ -127,6 +110,7 @@ impl Queues {
         ensures reply { result ≡ waiting self.old item }
         ensures next { self.new ≡ drop_item self.old item }
     {
+        self.words[item as usize].remove(BusyFlags::QUEUED);
         self.waiting.drop_item(item)
     }
 
@@ -140,9 +124,11 @@ impl Queues {
         if self.runs[queue as usize].is_some() {
             return None;
         }
-        let ticket = self.waiting.first(queue)?;
-        self.waiting.drop_item(ticket.item);
+        let ticket = self.waiting.begin(queue)?;
         self.runs[queue as usize] = Some(ticket);
+        let word = &mut self.words[ticket.item as usize];
+        word.remove(BusyFlags::QUEUED);
+        word.insert(BusyFlags::RUNNING);
         Some((ticket.item, ticket.number))
     }
 
@@ -154,6 +140,9 @@ impl Queues {
     {
         let ticket = self.runs[queue as usize]?;
         self.runs[queue as usize] = None;
+        if !runs::is_any_of(&self.runs, ticket.item) {
+            self.words[ticket.item as usize].remove(BusyFlags::RUNNING);
+        }
         Some((ticket.item, ticket.number))
     }
 

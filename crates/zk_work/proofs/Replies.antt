@@ -17,7 +17,7 @@ use Rattle.zk_model_work.proofs.Lines.{first_of_places}
 use Rattle.zk_model_work.proofs.Lives.{open-running}
 use Rattle.zk_model_work.proofs.Overlaps.{position-none, found_queue}
 use Rattle.zk_queue.specs.declared.ticket.Ticket.{Ticket}
-use Rattle.zk_queue.specs.declared.marks.ItemMarks.{ItemMarks}
+use Rattle.zk_queue.specs.Open.{ItemMarks}
 use Rattle.zk_queue.specs.Open as active
 use Rattle.zk_work.specs.EngineState.{EngineState, last_of, IsSound, StandsFor}
 use Rattle.zk_work.specs.Tickets.{tickets}

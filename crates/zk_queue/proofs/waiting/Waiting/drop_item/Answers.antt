@@ -1,44 +1,66 @@
-use Rattle.std.proofs.Common.{sym, ◌∙◌, arith}
-use Rattle.zk_queue.proofs.Keeping.{drops_none, drops, drops_within, drops_number, drops_kept, drops_next}
+use Rattle.std.proofs.Common.{◌≡◌, List, Some, None, option_map, sym, ap, ◌∙◌, arith}
+use Rattle.zk_queue.specs.declared.ticket.Ticket.{Ticket}
+use Rattle.zk_queue.specs.Line.{InLine, number_among}
+use Rattle.zk_queue.proofs.Keeping.{drops_none, drops, drops_some, drops_kept, drops_next, number_at, gone}
 use Rattle.zk_queue.proofs.waiting.Waiting.drop_item.Goals as goal
 
-pub returns-in_err-queue-clause-reply : goal.returns-in_err-queue-clause-reply
-returns-in_err-queue-clause-reply c =
+pub returns-in_err-place-clause-reply : goal.returns-in_err-place-clause-reply
+returns-in_err-place-clause-reply c =
     c.from_residual.ensures
-    ∙ sym (drops_none c.self.inside.places.items c.self.inside.lines.items c.args.self.now c.args.item c.index.result.now
-    c.self.view_is c.self.invariant c.requires c.index.ensures c.in_err-queue.was).0
+    ∙ sym (drops_none c.self.inside.places.items c.self.inside.rings.items c.args.self.now c.args.item c.index.result.now
+    c.self.view_is c.self.invariant c.requires c.index.ensures c.in_err-place.was).0
 
-pub returns-in_err-queue-clause-next : goal.returns-in_err-queue-clause-next
-returns-in_err-queue-clause-next c =
-    sym (drops_none c.self.inside.places.items c.self.inside.lines.items c.args.self.now c.args.item c.index.result.now
-    c.self.view_is c.self.invariant c.requires c.index.ensures c.in_err-queue.was).1
+pub returns-in_err-place-clause-next : goal.returns-in_err-place-clause-next
+returns-in_err-place-clause-next c =
+    sym (drops_none c.self.inside.places.items c.self.inside.rings.items c.args.self.now c.args.item c.index.result.now
+    c.self.view_is c.self.invariant c.requires c.index.ensures c.in_err-place.was).1
 
-pub index_mut-line-requires : goal.index_mut-line-requires
-index_mut-line-requires c =
-    let d = drops c.self.inside.places.items c.self.inside.lines.items c.args.self.now c.args.item c.in_ok-queue.queue
+pub returns-in_err-place-clause-gone : goal.returns-in_err-place-clause-gone
+returns-in_err-place-clause-gone c =
+    (drops_none c.self.inside.places.items c.self.inside.rings.items c.args.self.now c.args.item c.index.result.now
+    c.self.view_is c.self.invariant c.requires c.index.ensures c.in_err-place.was).0
+
+pub index_mut-ring-requires : goal.index_mut-ring-requires
+index_mut-ring-requires c =
+    let d = drops c.self.inside.places.items c.self.inside.rings.items c.args.self.now c.args.item c.in_ok-place.place
     c.index.result.now
-    c.self.view_is c.self.invariant c.requires c.index.ensures c.in_ok-queue.was in
-    omega (arith, drops_within _ _ _ _ _ d, c.self.inside.lines.ok.0)
+    c.self.view_is c.self.invariant c.requires c.index.ensures c.in_ok-place.was in
+    omega (arith, d.queue_in, c.self.inside.rings.ok.0)
+
+pub drop_at-requires : goal.drop_at-requires
+drop_at-requires c =
+    let d = drops c.self.inside.places.items c.self.inside.rings.items c.args.self.now c.args.item c.in_ok-place.place
+    c.index.result.now
+    c.self.view_is c.self.invariant c.requires c.index.ensures c.in_ok-place.was in
+    drops_some _ _ _ _ _ c.index_mut-ring.result.now d c.index_mut-ring.ensures.value
 
 pub invariant_of-self : goal.invariant_of-self
 invariant_of-self c =
-    let d = drops c.self.inside.places.items c.self.inside.lines.items c.args.self.now c.args.item c.in_ok-queue.queue
+    let d = drops c.self.inside.places.items c.self.inside.rings.items c.args.self.now c.args.item c.in_ok-place.place
     c.index.result.now
-    c.self.view_is c.self.invariant c.requires c.index.ensures c.in_ok-queue.was in
-    drops_kept _ _ _ _ _ c.index_mut-line.result.now c.drop_item.new.self d c.index_mut-line.ensures.value
-    c.drop_item.ensures.next c.drop_item.ensures.room
+    c.self.view_is c.self.invariant c.requires c.index.ensures c.in_ok-place.was in
+    drops_kept _ _ _ _ _ c.index_mut-ring.result.now c.drop_at.new.self d c.index_mut-ring.ensures.value
+    c.drop_at.ensures.next c.drop_at.ensures.capacity c.drop_at.ensures.keeps
 
 pub returns-clause-reply : goal.returns-clause-reply
 returns-clause-reply c =
-    let d = drops c.self.inside.places.items c.self.inside.lines.items c.args.self.now c.args.item c.in_ok-queue.queue
+    let d = drops c.self.inside.places.items c.self.inside.rings.items c.args.self.now c.args.item c.in_ok-place.place
     c.index.result.now
-    c.self.view_is c.self.invariant c.requires c.index.ensures c.in_ok-queue.was in
-    c.drop_item.ensures.reply ∙ drops_number _ _ _ _ _ c.index_mut-line.result.now d c.index_mut-line.ensures.value
+    c.self.view_is c.self.invariant c.requires c.index.ensures c.in_ok-place.was in
+    sym (number_at _ _ _ _ _ c.index_mut-ring.result.now d c.index_mut-ring.ensures.value ∙ c.drop_at.ensures.reply)
 
 pub returns-clause-next : goal.returns-clause-next
 returns-clause-next c =
-    let d = drops c.self.inside.places.items c.self.inside.lines.items c.args.self.now c.args.item c.in_ok-queue.queue
+    let d = drops c.self.inside.places.items c.self.inside.rings.items c.args.self.now c.args.item c.in_ok-place.place
     c.index.result.now
-    c.self.view_is c.self.invariant c.requires c.index.ensures c.in_ok-queue.was in
-    drops_next _ _ _ _ _ c.index_mut-line.result.now c.drop_item.new.self d c.index_mut-line.ensures.value
-    c.drop_item.ensures.next
+    c.self.view_is c.self.invariant c.requires c.index.ensures c.in_ok-place.was in
+    drops_next _ _ _ _ _ c.index_mut-ring.result.now c.drop_at.new.self d c.index_mut-ring.ensures.value c.drop_at.ensures.next
+
+pub returns-clause-gone : goal.returns-clause-gone
+returns-clause-gone c =
+    let d = drops c.self.inside.places.items c.self.inside.rings.items c.args.self.now c.args.item c.in_ok-place.place
+    c.index.result.now
+    c.self.view_is c.self.invariant c.requires c.index.ensures c.in_ok-place.was in
+    gone c.self.inside.places.items _ c.args.item
+    (drops_kept _ _ _ _ _ c.index_mut-ring.result.now c.drop_at.new.self d c.index_mut-ring.ensures.value
+    c.drop_at.ensures.next c.drop_at.ensures.capacity c.drop_at.ensures.keeps) d.item_in
