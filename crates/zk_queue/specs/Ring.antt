@@ -24,7 +24,8 @@ entry_at r position = slice_index_or r.entries (index_at r.front position) None
 
 -- each ticket stays at its position, but the one that is gone
 pub record KeepsBut (gone : Option Ticket) (old new : RingView) : Type 0 where
-  pub stays : (position : ℕ) (t : Ticket) → entry_at old position ≡ Some t → (gone ≡ Some t) ⊎ (entry_at new position ≡ Some t)
+  pub stays : (position : ℕ) (t : Ticket) → entry_at old position ≡ Some t →
+      (gone ≡ Some t) ⊎ (entry_at new position ≡ Some t)
 
 -- the first entry stands at the end, unless it was dead
 abbrev pub turned : List (Option Ticket) → List (Option Ticket)
