@@ -117,8 +117,12 @@ fn put_replied(text: &mut Vec<u8>, line: &[u8], other: Option<&[u8]>) -> Result<
 
 /// A line, cut before its reply.
 fn at_reply(line: &[u8]) -> Option<(&[u8], &[u8])> {
-    let sign = line.iter().position(|byte| *byte == b'=')?;
-    line.split_at_checked(sign)
+    for (at, byte) in line.iter().enumerate() {
+        if *byte == b'=' {
+            return line.split_at_checked(at);
+        }
+    }
+    None
 }
 
 fn put_all(text: &mut Vec<u8>, pieces: &[&[u8]]) -> Result<(), NoMemory> {

@@ -1,18 +1,17 @@
 //! The second judge: whether a trace is lawful, by a plain reading of what that means.
-use crate::busy::{flags_after, is_waiting};
-use crate::draws::count_of;
+use crate::busy::flags_after;
 use crate::logged::{heads_of, wrong_log};
 use crate::placed::misplaced;
 use crate::plain::Machines;
-use crate::player::{Player, players_of};
+use crate::player::{Player, ending_of, players_of};
 use crate::rows::{Row, Rows, rows_of};
 use crate::signals::{is_in_time, seen_at};
 use std::alloc::Global;
 use zk_base::NoMemory;
 use zk_check::{Checked, Fail};
 use zk_scenario::Scenario;
-use zk_trace::{Ending, Trace};
-use zk_worker::{PlayerState, Spot};
+use zk_trace::Trace;
+use zk_worker::Spot;
 
 /// The verdict on a trace whose first line has this number, for a scenario with two threads, two queues, items, semaphores and
 /// signals; for one of another shape there is none.
@@ -67,8 +66,12 @@ fn wrong_entry(
 
 /// The first look that didn't find what was there, or found what was older than what its player had seen.
 fn wrong_look(scenario: &Scenario, trace: &Trace, rows: &[Row]) -> Option<u32> {
-    let is_wrong = |row: &&Row| !is_right_look(scenario, trace, rows, **row);
-    rows.iter().find(is_wrong).map(|row| row.line)
+    for row in rows {
+        if !is_right_look(scenario, trace, rows, *row) {
+            return Some(row.line);
+        }
+    }
+    None
 }
 
 /// Whether the look of a line, if it is one, found what was there, and in time.
@@ -99,9 +102,12 @@ fn finds(trace: &Trace, item: u32, flags: u8, at: u64) -> bool {
 
 /// Whether the player of a look had seen more entries of the work service than these, in an earlier step.
 fn has_seen_more(rows: &[Row], look: Row, at: u64) -> bool {
-    rows.iter().any(|row| row.player == look.player
-        && row.step < look.step
-        && at < seen_by(row.spot))
+    for row in rows {
+        if row.player == look.player && row.step < look.step && at < seen_by(row.spot) {
+            return true;
+        }
+    }
+    false
 }
 
 /// How many entries of the work service a step has seen.
@@ -115,21 +121,7 @@ fn seen_by(spot: Spot) -> u64 {
 
 /// Whether the ending is that of players who stand so. None has made all the steps that it may.
 fn ends_so(scenario: &Scenario, trace: &Trace, players: &[Player]) -> bool {
-    let wanted = if is_over(scenario, trace, players) {
-        Ending::Ended
-    } else {
-        Ending::Stuck
-    };
-    trace.ending == wanted
-}
-
-/// Whether all are done, and no item waits.
-fn is_over(scenario: &Scenario, trace: &Trace, players: &[Player]) -> bool {
-    let done = players
-        .iter()
-        .all(|player| player.state(scenario) == PlayerState::Done);
-    let items = count_of(scenario.items().len());
-    done && (0..items).all(|item| !is_waiting(trace.work.items(), item))
+    trace.ending == ending_of(scenario, trace.work.items(), players)
 }
 
 /// Whether some player can make a next step.

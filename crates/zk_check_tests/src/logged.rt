@@ -57,8 +57,12 @@ fn wrong_step(
 
 /// The line of a player's step.
 fn row_of(rows: &[Row], player: u32, step: u32) -> Option<Row> {
-    let is_it = |row: &&Row| row.player == player && row.step == step;
-    rows.iter().find(is_it).copied()
+    for row in rows {
+        if row.player == player && row.step == step {
+            return Some(*row);
+        }
+    }
+    None
 }
 
 /// The step that is recorded here, and what its reply comes to.

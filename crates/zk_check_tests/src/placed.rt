@@ -48,7 +48,16 @@ fn is_one_part(spot: Spot, other: Spot) -> bool {
 
 /// Whether a player's steps, as many as they are, aren't the first ones.
 fn has_gap(rows: &[Row], player: u32) -> bool {
-    let count = rows.iter().filter(|row| row.player == player).count();
-    rows.iter()
-        .any(|row| row.player == player && row.step as usize >= count)
+    let mut count: u32 = 0;
+    for row in rows {
+        if row.player == player {
+            count = count.saturating_add(1);
+        }
+    }
+    for row in rows {
+        if row.player == player && row.step >= count {
+            return true;
+        }
+    }
+    false
 }

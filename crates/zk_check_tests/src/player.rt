@@ -1,9 +1,12 @@
 //! A player by the rules of calls: a thread plays its script, a worker what it takes up.
+use crate::busy::is_waiting;
 use crate::calls::{Ahead, Stage, Told, call_ahead, only, stage_after};
+use crate::draws::count_of;
 use std::alloc::Global;
-use zk_base::{NoMemory, Who};
-use zk_model_work::WorkOp;
+use zk_base::{Entry, NoMemory, Who};
+use zk_model_work::{WorkOp, WorkReply};
 use zk_scenario::{Call, Scenario, word_of};
+use zk_trace::Ending;
 use zk_worker::{Answer, Answered, PlayerState, Step};
 
 /// Where a player stands.
@@ -32,6 +35,25 @@ pub fn players_of(alloc: Global, scenario: &Scenario) -> Result<Vec<Player>, NoM
         }
     }
     Ok(players)
+}
+
+/// The ending where players stand so, after these entries of the work service: all is over where each is done and no item waits.
+pub fn ending_of(
+    scenario: &Scenario,
+    work: &[Entry<WorkOp, WorkReply>],
+    players: &[Player],
+) -> Ending {
+    for player in players {
+        if player.state(scenario) != PlayerState::Done {
+            return Ending::Stuck;
+        }
+    }
+    for item in 0..count_of(scenario.items().len()) {
+        if is_waiting(work, item) {
+            return Ending::Stuck;
+        }
+    }
+    Ending::Ended
 }
 
 impl Player {

@@ -1,17 +1,17 @@
 //! A run of a scenario on its plain machines, in whatever order of turns, and its trace.
-use crate::busy::{flags_after, is_waiting};
+use crate::busy::flags_after;
 use crate::calls::{Told, clock_told, sem_told, work_told};
 use crate::draws::{count_of, draw, drawn_op};
 use crate::plain::Machines;
-use crate::player::{Player, players_of};
+use crate::player::{Player, ending_of, players_of};
 use crate::signals::seen_at;
 use std::alloc::Global;
 use zk_base::{Entry, Listed, NoMemory, Who};
 use zk_model_wait::{ClockOp, ClockReply, SemOp, SemReply, SignalOp, SignalReply};
 use zk_model_work::{WorkOp, WorkReply};
 use zk_scenario::Scenario;
-use zk_trace::{Ending, ItemLook, SignalLook, SignalLooks, Trace};
-use zk_worker::{Answer, Log, PlayerState, Step};
+use zk_trace::{ItemLook, SignalLook, SignalLooks, Trace};
+use zk_worker::{Answer, Log, Step};
 
 /// How far a run is.
 #[derive(Drop)]
@@ -246,23 +246,9 @@ impl Run {
         Ok(Told::Answer(Answer::Flags(flags)))
     }
 
-    fn ending(&self, scenario: &Scenario) -> Ending {
-        let items = count_of(scenario.items().len());
-        let waits = (0..items).any(|item| is_waiting(&self.work, item));
-        let done = self
-            .players
-            .iter()
-            .all(|player| player.state(scenario) == PlayerState::Done);
-        if done && !waits {
-            Ending::Ended
-        } else {
-            Ending::Stuck
-        }
-    }
-
     /// Its trace. The steps of logs aren't printed.
     pub fn into_trace(self, alloc: Global, scenario: &Scenario) -> Result<Trace, NoMemory> {
-        let ending = self.ending(scenario);
+        let ending = ending_of(scenario, &self.work, &self.players);
         let Run {
             machines: _,
             players,

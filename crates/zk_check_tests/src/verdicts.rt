@@ -25,8 +25,9 @@ pub struct Verdicts {
 impl Verdicts {
     /// Whether each of them came.
     pub fn all_came(&self) -> bool {
-        let failed = [self.place, self.history, self.log, self.look, self.ending];
-        self.refused > 0 && self.lawful > 0 && failed.iter().all(|count| *count > 0)
+        let of_traces = self.place > 0 && self.history > 0 && self.log > 0;
+        let all_failed = of_traces && self.look > 0 && self.ending > 0;
+        self.refused > 0 && self.lawful > 0 && all_failed
     }
 
     /// Counts one more; nothing was checked where the text was no trace.
