@@ -1,5 +1,6 @@
 pub mod DeclaredObjects
 pub mod Lists
+pub mod Moving
 pub mod CheckedSteps
 pub mod Limits
 pub mod Starts

@@ -6,6 +6,7 @@ pub mod Families
 pub mod Follows
 pub mod Looks
 pub mod Machines
+pub mod Moves
 pub mod Next
 pub mod Places
 pub mod Playing

@@ -6,6 +6,7 @@ mod calls;
 mod checks;
 mod frames;
 mod log;
+mod moves;
 mod player;
 mod playing;
 mod polls;
@@ -21,7 +22,7 @@ mod waits;
 
 pub use answers::{Answer, Answered, Answers};
 pub use checks::{Check, Mode};
-pub use frames::{Alarm, Closing, Frame, Mark, Plan, Progress, Role, Stage, Using, Waiting};
+pub use frames::{Alarm, Closing, Frame, Mark, Moved, Plan, Progress, Role, Stage, Using, Waiting};
 pub use log::{Log, PlayerState};
 pub use player::Player;
 pub use playing::Stepped;

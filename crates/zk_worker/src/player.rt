@@ -14,12 +14,10 @@ ghost use Rattle.zk_worker.specs.Attempt.{IsMade};
 use crate::checks::{check_step, mode_after, next_check, oops_in, start_mode};
 use crate::frames::MOST_FRAMES;
 use crate::protocol::spot_of;
-use crate::stack::{
-    frames_ahead, frames_progress, move_frames, open_frame, put_answer, settle, top_call,
-};
+use crate::stack::{frames_ahead, open_frame, settle, stack_goes_on, top_call};
 use crate::{
-    Answer, Answered, Answers, Check, Frame, Log, Mode, PlayerState, Progress, Role, Spot, Spots,
-    Stage, Step, StepReply, Word,
+    Answer, Answered, Answers, Check, Frame, Log, Mode, PlayerState, Role, Spot, Spots, Stage,
+    Step, StepReply, Word,
 };
 use std::alloc::Global;
 use std::marker::Model;
@@ -260,10 +258,14 @@ impl Player {
             (frames_progress scenario.now self.old.frames step.now reply.now) (spot_of step.now reply.now) }
     {
         let number = self.spots.len() as u32;
-        let mut progress = Progress::Goes(Stage::Start);
-        frames_progress(scenario, &self.stack, step, reply, &mut progress);
-        put_answer(&mut self.answers, number, &progress);
-        move_frames(scenario, &mut self.stack, &progress);
+        stack_goes_on(
+            scenario,
+            &mut self.stack,
+            step,
+            reply,
+            number,
+            &mut self.answers,
+        );
         self.mode = mode_after(self.mode, step);
         self.passed = 0;
         push_within(&mut self.spots, spot_of(step, reply));
