@@ -4,6 +4,7 @@ pub mod Checks
 pub mod Choosing
 pub mod Families
 pub mod Follows
+pub mod KeptAnswers
 pub mod Looks
 pub mod Machines
 pub mod Moves

@@ -1,4 +1,4 @@
-ghost use Rattle.std.specs.Prelude.{◌≡◌, ◌<◌, ◌≤◌, false, List, slice_get, option_map, vec_len, vec_capacity};
+ghost use Rattle.std.specs.Prelude.{◌≡◌, ◌<◌, ◌≤◌, false, List, slice_get, option_map, length};
 ghost use Rattle.zk_line.specs.Calls.{word_of};
 ghost use Rattle.zk_line.specs.declared.types.Decl.{Decl};
 ghost use Rattle.zk_worker.specs.Calls.{plan_of, closing_step, plan_attempts, plan_progress};
@@ -10,7 +10,7 @@ use crate::polls::{poll_ahead, poll_goes_on};
 use crate::publishes::{channel_ahead, channel_goes_on};
 use crate::refs::{queue_number, ref_number, ref_object};
 use crate::waits::{open_wait, wait_ahead, wait_goes_on};
-use crate::{Answered, Closing, Moved, Plan, Stage, Step, StepReply, Using, Waiting, Word};
+use crate::{AnswerRows, Closing, Moved, Plan, Stage, Step, StepReply, Using, Waiting, Word};
 use zk_base::Msg;
 use zk_model_bus::{ChanOp, ObsOp, TableOp};
 use zk_model_wait::{ClockOp, MsgqOp, SemOp, SignalOp};
@@ -443,13 +443,13 @@ fn pair_goes_on(
     reply: &StepReply,
     step: u32,
     stage: &mut Stage,
-    answers: &mut Vec<Answered>,
+    answers: &mut AnswerRows,
 ) -> Moved
-    requires { vec_len answers.old < vec_capacity answers.old }
+    requires { length answers.old.items < answers.old.room }
     ensures done { (opening made : Step) (closing : Closing) → IsDone step
         (plan_progress word (Plan.Pair opening closing) stage.old made reply.now)
         result stage.new answers.old.items answers.new.items }
-    ensures capacity { vec_capacity answers.old ≤ vec_capacity answers.new }
+    ensures capacity { answers.old.room ≤ answers.new.room }
 {
     match &*stage {
         Stage::Start => open_wait(word, reply, step, stage, answers),
@@ -458,17 +458,12 @@ fn pair_goes_on(
 }
 
 /// Both services that have a time go on: the second step answers the call.
-fn tick_goes_on(
-    reply: &StepReply,
-    step: u32,
-    stage: &mut Stage,
-    answers: &mut Vec<Answered>,
-) -> Moved
-    requires { vec_len answers.old < vec_capacity answers.old }
+fn tick_goes_on(reply: &StepReply, step: u32, stage: &mut Stage, answers: &mut AnswerRows) -> Moved
+    requires { length answers.old.items < answers.old.room }
     ensures done { (first second made : Step) → IsDone step
         (plan_progress Word.Tick (Plan.Twice first second) stage.old made reply.now)
         result stage.new answers.old.items answers.new.items }
-    ensures capacity { vec_capacity answers.old ≤ vec_capacity answers.new }
+    ensures capacity { answers.old.room ≤ answers.new.room }
 {
     match &*stage {
         Stage::Start => {
@@ -486,13 +481,13 @@ pub fn call_goes_on(
     reply: &StepReply,
     step: u32,
     stage: &mut Stage,
-    answers: &mut Vec<Answered>,
+    answers: &mut AnswerRows,
 ) -> Moved
-    requires { vec_len answers.old < vec_capacity answers.old }
+    requires { length answers.old.items < answers.old.room }
     ensures done { (decls : List Decl) → IsDone step
         (plan_progress (word_of call.now) (plan_of decls call.now) stage.old made.now reply.now)
         result stage.new answers.old.items answers.new.items }
-    ensures capacity { vec_capacity answers.old ≤ vec_capacity answers.new }
+    ensures capacity { answers.old.room ≤ answers.new.room }
 {
     match call {
         Call::CancelSync(_) => pair_goes_on(Word::CancelSync, reply, step, stage, answers),

@@ -1,6 +1,7 @@
 //! The call protocol, and the player that follows it through its script.
 #![tactic(auto)]
 
+mod answer_rows;
 mod answers;
 mod calls;
 mod checks;
@@ -20,6 +21,7 @@ mod stack;
 mod steps;
 mod waits;
 
+pub use answer_rows::{AnswerRow, AnswerRows, Brief};
 pub use answers::{Answer, Answered, Answers};
 pub use checks::{Check, Mode};
 pub use frames::{Alarm, Closing, Frame, Mark, Moved, Plan, Progress, Role, Stage, Using, Waiting};

@@ -1,11 +1,10 @@
-ghost use Rattle.std.specs.Prelude.{◌<◌, ◌≤◌, vec_len, vec_capacity};
+ghost use Rattle.std.specs.Prelude.{◌<◌, ◌≤◌, length};
 ghost use Rattle.zk_worker.specs.declared.frames.Progress.{Progress};
 ghost use Rattle.zk_worker.specs.Moves.{IsDone};
 ghost use Rattle.zk_worker.specs.Replies.{answer_of};
 
 use crate::replies::answer_of;
-use crate::{Answer, Answered, Moved, Stage, StepReply, Word};
-use zk_base::push_within;
+use crate::{Answer, AnswerRows, Moved, Stage, StepReply, Word};
 
 /// The next call of a script has its answer, by the step of this number.
 // It is put where it is kept, and so is the stage, here and in all that a reply does: both are large.
@@ -14,14 +13,14 @@ pub fn answer_call(
     answer: Answer,
     step: u32,
     stage: &mut Stage,
-    answers: &mut Vec<Answered>,
+    answers: &mut AnswerRows,
 ) -> Moved
-    requires { vec_len answers.old < vec_capacity answers.old }
+    requires { length answers.old.items < answers.old.room }
     ensures done { IsDone step (Progress.Answers word answer)
         result stage.new answers.old.items answers.new.items }
-    ensures capacity { vec_capacity answers.old ≤ vec_capacity answers.new }
+    ensures capacity { answers.old.room ≤ answers.new.room }
 {
-    push_within(answers, Answered { step, word, answer });
+    answers.push(step, word, &answer);
     *stage = Stage::Start;
     Moved::Answers
 }
@@ -32,12 +31,12 @@ pub fn answer_by(
     reply: &StepReply,
     step: u32,
     stage: &mut Stage,
-    answers: &mut Vec<Answered>,
+    answers: &mut AnswerRows,
 ) -> Moved
-    requires { vec_len answers.old < vec_capacity answers.old }
+    requires { length answers.old.items < answers.old.room }
     ensures done { IsDone step (Progress.Answers word (answer_of reply.now))
         result stage.new answers.old.items answers.new.items }
-    ensures capacity { vec_capacity answers.old ≤ vec_capacity answers.new }
+    ensures capacity { answers.old.room ≤ answers.new.room }
 {
     answer_call(word, answer_of(reply), step, stage, answers)
 }

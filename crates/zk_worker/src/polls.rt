@@ -1,4 +1,4 @@
-ghost use Rattle.std.specs.Prelude.{◌≡◌, ◌++◌, ◌+◌, ◌<◌, ◌≤◌, false, Some, List, drop, length, slice_get, option_to_list, vec_len, vec_capacity};
+ghost use Rattle.std.specs.Prelude.{◌≡◌, ◌++◌, ◌+◌, ◌<◌, ◌≤◌, false, Some, List, drop, length, slice_get, option_to_list};
 ghost use Rattle.std.specs.List.{list_any, position};
 ghost use Rattle.zk_worker.specs.Moves.{IsDone, is_unasked, poll_further};
 ghost use Rattle.zk_worker.specs.Polls.{waits, is_armed, is_ready, is_to_ask, unasked_from, asks_more, ask_step, watch_step, drop_step};
@@ -7,9 +7,7 @@ ghost use Rattle.zk_worker.specs.Polls.{mark_of, is_watch, watched_from, event_o
 
 use crate::moves::answer_call;
 use crate::refs::ref_object;
-use crate::{
-    Alarm, Answer, Answered, Mark, Moved, Positions, Stage, Step, StepReply, Word,
-};
+use crate::{Alarm, Answer, AnswerRows, Mark, Moved, Positions, Stage, Step, StepReply, Word};
 use zk_base::Errno;
 use zk_line::{Event, Events, MOST_EVENTS};
 use zk_model_wait::{ClockOp, ClockReply, MsgqOp, MsgqReply, SemOp, SemReply};
@@ -426,12 +424,12 @@ fn put_alarm(stage: &mut Stage, alarm: Alarm)
 }
 
 /// A poll that asks no more has its answer, or goes on.
-fn close_poll(timeout: Timeout, step: u32, stage: &mut Stage, answers: &mut Vec<Answered>) -> Moved
-    requires room { vec_len answers.old < vec_capacity answers.old }
+fn close_poll(timeout: Timeout, step: u32, stage: &mut Stage, answers: &mut AnswerRows) -> Moved
+    requires room { length answers.old.items < answers.old.room }
     ensures done { (events : List Event) (alarm : Alarm) (marks : List Mark) → stage.old ≡ Stage.Polls alarm marks →
         asks_more events marks ≡ false → IsDone step (poll_goes Word.Poll timeout events alarm marks)
         result stage.new answers.old.items answers.new.items }
-    ensures capacity { vec_capacity answers.old ≤ vec_capacity answers.new }
+    ensures capacity { answers.old.room ≤ answers.new.room }
 {
     let Stage::Polls(alarm, marks) = &*stage else {
         return Moved::Goes;
@@ -451,13 +449,13 @@ fn poll_further(
     reply: &StepReply,
     step: u32,
     stage: &mut Stage,
-    answers: &mut Vec<Answered>,
+    answers: &mut AnswerRows,
 ) -> Moved
     requires few { length events.now ≤ MOST_EVENTS }
-    requires room { vec_len answers.old < vec_capacity answers.old }
+    requires room { length answers.old.items < answers.old.room }
     ensures done { IsDone step (poll_further Word.Poll timeout events.now stage.old made.now reply.now)
         result stage.new answers.old.items answers.new.items }
-    ensures capacity { vec_capacity answers.old ≤ vec_capacity answers.new }
+    ensures capacity { answers.old.room ≤ answers.new.room }
 {
     let Stage::Polls(alarm, marks) = &*stage else {
         return Moved::Goes;
@@ -483,12 +481,12 @@ pub fn poll_goes_on(
     reply: &StepReply,
     step: u32,
     stage: &mut Stage,
-    answers: &mut Vec<Answered>,
+    answers: &mut AnswerRows,
 ) -> Moved
-    requires { vec_len answers.old < vec_capacity answers.old }
+    requires { length answers.old.items < answers.old.room }
     ensures done { IsDone step (poll_progress Word.Poll timeout events.now stage.old made.now reply.now)
         result stage.new answers.old.items answers.new.items }
-    ensures capacity { vec_capacity answers.old ≤ vec_capacity answers.new }
+    ensures capacity { answers.old.room ≤ answers.new.room }
 {
     let events = events.items();
     match (&*stage, reply) {

@@ -1,4 +1,4 @@
-ghost use Rattle.std.specs.Prelude.{◌≡◌, ℕ, ◌<◌, ◌≤◌, List, slice_get, option_copied, vec_len, vec_capacity};
+ghost use Rattle.std.specs.Prelude.{◌≡◌, ℕ, ◌<◌, ◌≤◌, List, slice_get, option_copied, length};
 ghost use Rattle.zk_line.specs.Objects.{places, is_item};
 ghost use Rattle.zk_scenario.specs.Players.{players, calls_of};
 ghost use Rattle.zk_worker.specs.Moves.{IsDone};
@@ -6,7 +6,7 @@ ghost use Rattle.zk_worker.specs.Next.{role_call};
 ghost use Rattle.zk_worker.specs.Protocol.{worker_attempts, role_attempts, worker_progress, role_progress, is_over, place_of, found_flags, found_seen, spot_of};
 
 use crate::calls::{call_ahead, call_goes_on};
-use crate::{Answered, Frame, Moved, Role, Spot, Stage, Step, StepReply};
+use crate::{AnswerRows, Answered, Frame, Moved, Role, Spot, Stage, Step, StepReply};
 use zk_base::Seen;
 use zk_model_work::{WorkOp, WorkReply};
 use zk_scenario::{Call, Scenario};
@@ -87,14 +87,14 @@ pub fn frame_goes_on(
     made: &Step,
     reply: &StepReply,
     step: u32,
-    answers: &mut Vec<Answered>,
+    answers: &mut AnswerRows,
 ) -> Moved
-    requires { vec_len answers.old < vec_capacity answers.old }
+    requires { length answers.old.items < answers.old.room }
     ensures done { IsDone step
         (role_progress scenario.now frame.old.role frame.old.next frame.old.stage made.now reply.now)
         result frame.new.stage answers.old.items answers.new.items }
     ensures kept { frame.new ≡ record frame.old { stage = frame.new.stage } }
-    ensures capacity { vec_capacity answers.old ≤ vec_capacity answers.new }
+    ensures capacity { answers.old.room ≤ answers.new.room }
 {
     match frame.role {
         Role::Script(owner) => match call_at(scenario, owner, frame.next) {

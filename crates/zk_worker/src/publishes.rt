@@ -1,10 +1,10 @@
-ghost use Rattle.std.specs.Prelude.{◌≡◌, ◌<◌, ◌≤◌, slice_get, vec_len, vec_capacity};
+ghost use Rattle.std.specs.Prelude.{◌≡◌, ◌<◌, ◌≤◌, slice_get, length};
 ghost use Rattle.zk_worker.specs.Moves.{IsDone};
 ghost use Rattle.zk_worker.specs.Publishes.{asks_for, use_step, visit_step, channel_attempts, holds_progress, rest_of, visits_answer, visit_progress, asking_progress, channel_progress};
 
 use crate::moves::{answer_by, answer_call};
 use crate::waits::{wait_ahead, wait_goes_on};
-use crate::{Answer, Answered, Moved, Stage, Step, StepReply, Using, Waiting, Word};
+use crate::{Answer, AnswerRows, Moved, Stage, Step, StepReply, Using, Waiting, Word};
 use zk_base::{Errno, Few};
 use zk_model_bus::{ChanOp, ChanReply, ObsOp, ObsReply};
 use zk_words::Timeout;
@@ -69,12 +69,12 @@ fn hold_goes_on(
     reply: &StepReply,
     step: u32,
     stage: &mut Stage,
-    answers: &mut Vec<Answered>,
+    answers: &mut AnswerRows,
 ) -> Moved
-    requires { vec_len answers.old < vec_capacity answers.old }
+    requires { length answers.old.items < answers.old.room }
     ensures done { IsDone step (holds_progress word reply.now)
         result stage.new answers.old.items answers.new.items }
-    ensures capacity { vec_capacity answers.old ≤ vec_capacity answers.new }
+    ensures capacity { answers.old.room ≤ answers.new.room }
 {
     match reply {
         StepReply::Chan(_, ChanReply::Observers(told), _) => {
@@ -122,12 +122,12 @@ fn visit_goes_on(
     reply: &StepReply,
     step: u32,
     stage: &mut Stage,
-    answers: &mut Vec<Answered>,
+    answers: &mut AnswerRows,
 ) -> Moved
-    requires { vec_len answers.old < vec_capacity answers.old }
+    requires { length answers.old.items < answers.old.room }
     ensures done { IsDone step (visit_progress word left.now full reply.now)
         result stage.new answers.old.items answers.new.items }
-    ensures capacity { vec_capacity answers.old ≤ vec_capacity answers.new }
+    ensures capacity { answers.old.room ≤ answers.new.room }
 {
     match reply {
         StepReply::Obs(observer, ObsReply::Run, _) => {
@@ -152,12 +152,12 @@ fn asking_goes_on(
     reply: &StepReply,
     step: u32,
     stage: &mut Stage,
-    answers: &mut Vec<Answered>,
+    answers: &mut AnswerRows,
 ) -> Moved
-    requires { vec_len answers.old < vec_capacity answers.old }
+    requires { length answers.old.items < answers.old.room }
     ensures done { IsDone step (asking_progress word stage.old reply.now)
         result stage.new answers.old.items answers.new.items }
-    ensures capacity { vec_capacity answers.old ≤ vec_capacity answers.new }
+    ensures capacity { answers.old.room ≤ answers.new.room }
 {
     match reply {
         StepReply::Chan(_, ChanReply::Got, _) => {
@@ -174,12 +174,12 @@ pub fn channel_goes_on(
     reply: &StepReply,
     step: u32,
     stage: &mut Stage,
-    answers: &mut Vec<Answered>,
+    answers: &mut AnswerRows,
 ) -> Moved
-    requires { vec_len answers.old < vec_capacity answers.old }
+    requires { length answers.old.items < answers.old.room }
     ensures done { IsDone step (channel_progress word stage.old reply.now)
         result stage.new answers.old.items answers.new.items }
-    ensures capacity { vec_capacity answers.old ≤ vec_capacity answers.new }
+    ensures capacity { answers.old.room ≤ answers.new.room }
 {
     match &*stage {
         Stage::Holds => hold_goes_on(word, reply, step, stage, answers),

@@ -6,7 +6,7 @@ ghost use Rattle.zk_worker.specs.Stacks.{is_top_over};
 
 use crate::frames::MOST_FRAMES;
 use crate::protocol::{frame_goes_on, is_over, role_ahead, role_call};
-use crate::{Answered, Frame, Moved, Role, Stage, Step, StepReply};
+use crate::{AnswerRows, Frame, Moved, Role, Stage, Step, StepReply};
 use zk_base::push_within;
 use zk_scenario::{Call, Scenario};
 
@@ -99,18 +99,18 @@ pub fn stack_goes_on(
     made: &Step,
     reply: &StepReply,
     step: u32,
-    answers: &mut Vec<Answered>,
+    answers: &mut AnswerRows,
 )
     requires room { MOST_FRAMES ≤ vec_capacity stack.old }
     requires short { length stack.old.items ≤ MOST_FRAMES }
     requires nexts { All (λ frame. frame.next < MOST_STEPS) (reverse stack.old.items) }
-    requires for_answer { vec_len answers.old < vec_capacity answers.old }
+    requires for_answer { length answers.old.items < answers.old.room }
     ensures frames { reverse stack.new.items ≡ frames_after scenario.now (reverse stack.old.items)
         (frames_progress scenario.now (reverse stack.old.items) made.now reply.now) }
     ensures answers { answers.new.items ≡ answers_after answers.old.items step
         (frames_progress scenario.now (reverse stack.old.items) made.now reply.now) }
     ensures frame_room { vec_capacity stack.old ≤ vec_capacity stack.new }
-    ensures answer_room { vec_capacity answers.old ≤ vec_capacity answers.new }
+    ensures answer_room { answers.old.room ≤ answers.new.room }
 {
     let Some(frame) = stack.last_mut() else {
         return;

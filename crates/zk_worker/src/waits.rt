@@ -1,9 +1,9 @@
-ghost use Rattle.std.specs.Prelude.{◌≡◌, ◌<◌, ◌≤◌, slice_get, vec_len, vec_capacity};
+ghost use Rattle.std.specs.Prelude.{◌≡◌, ◌<◌, ◌≤◌, slice_get, length};
 ghost use Rattle.zk_worker.specs.Moves.{IsDone, opens_at};
 ghost use Rattle.zk_worker.specs.Waits.{open_step, end_step, quit_step, first_step, wait_attempts, opening_progress, with_alarm, wait_progress};
 
 use crate::moves::answer_by;
-use crate::{Answered, Moved, Stage, Step, StepReply, Waiting, Word};
+use crate::{AnswerRows, Moved, Stage, Step, StepReply, Waiting, Word};
 use zk_model_bus::{ChanOp, ChanReply, ObsOp, ObsReply};
 use zk_model_wait::{ClockOp, ClockReply, MsgqOp, MsgqReply, SemOp, SemReply};
 use zk_model_work::WorkReply;
@@ -107,12 +107,12 @@ pub fn open_wait(
     reply: &StepReply,
     step: u32,
     stage: &mut Stage,
-    answers: &mut Vec<Answered>,
+    answers: &mut AnswerRows,
 ) -> Moved
-    requires { vec_len answers.old < vec_capacity answers.old }
+    requires { length answers.old.items < answers.old.room }
     ensures done { IsDone step (opening_progress word reply.now)
         result stage.new answers.old.items answers.new.items }
-    ensures capacity { vec_capacity answers.old ≤ vec_capacity answers.new }
+    ensures capacity { answers.old.room ≤ answers.new.room }
 {
     match waits_since(reply) {
         Some(place) => {
@@ -130,12 +130,12 @@ fn open_wait_until(
     reply: &StepReply,
     step: u32,
     stage: &mut Stage,
-    answers: &mut Vec<Answered>,
+    answers: &mut AnswerRows,
 ) -> Moved
-    requires { vec_len answers.old < vec_capacity answers.old }
+    requires { length answers.old.items < answers.old.room }
     ensures done { IsDone step (with_alarm moment (opening_progress word reply.now))
         result stage.new answers.old.items answers.new.items }
-    ensures capacity { vec_capacity answers.old ≤ vec_capacity answers.new }
+    ensures capacity { answers.old.room ≤ answers.new.room }
 {
     match waits_since(reply) {
         Some(place) => {
@@ -152,12 +152,12 @@ pub fn wait_goes_on(
     reply: &StepReply,
     step: u32,
     stage: &mut Stage,
-    answers: &mut Vec<Answered>,
+    answers: &mut AnswerRows,
 ) -> Moved
-    requires { vec_len answers.old < vec_capacity answers.old }
+    requires { length answers.old.items < answers.old.room }
     ensures done { IsDone step (wait_progress word stage.old reply.now)
         result stage.new answers.old.items answers.new.items }
-    ensures capacity { vec_capacity answers.old ≤ vec_capacity answers.new }
+    ensures capacity { answers.old.room ≤ answers.new.room }
 {
     match (&*stage, reply) {
         (Stage::Start, StepReply::Clock(ClockReply::At(moment), _)) => {

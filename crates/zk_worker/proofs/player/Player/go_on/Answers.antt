@@ -17,8 +17,8 @@ invariant_of-self c =
     IsRoomy-moved s (reverse was.stack.items) (reverse c.stack_goes_on.new.stack.items) was.answers.items c.stack_goes_on.new.answers.items
     was.spots.items c.push_within.new.items.items c.spot_of.result c.len-number.result
     (frames_progress s (reverse was.stack.items) c.args.step.now c.args.reply.now) was.passed
-    (vec_capacity was.stack) (vec_capacity was.answers) (vec_capacity was.spots)
-    (vec_capacity c.stack_goes_on.new.stack) (vec_capacity c.stack_goes_on.new.answers) (vec_capacity c.push_within.new.items)
+    (vec_capacity was.stack) was.answers.room (vec_capacity was.spots)
+    (vec_capacity c.stack_goes_on.new.stack) c.stack_goes_on.new.answers.room (vec_capacity c.push_within.new.items)
     c.self.invariant fewer c.stack_goes_on.ensures.frames c.stack_goes_on.ensures.answers c.push_within.ensures.items
     c.stack_goes_on.ensures.frame_room c.stack_goes_on.ensures.answer_room c.push_within.ensures.capacity
 
