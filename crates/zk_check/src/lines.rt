@@ -120,7 +120,7 @@ fn all_logs(logs: &[Log]) -> u64
     for log in logs {
         lines = lines
             .saturating_add(1)
-            .saturating_add(log.answers.items().len() as u64);
+            .saturating_add(log.answers.len() as u64);
     }
     lines
 }

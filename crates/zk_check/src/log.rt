@@ -22,7 +22,7 @@ use std::alloc::Global;
 use zk_base::NoMemory;
 use zk_scenario::Scenario;
 use zk_trace::{Stood, Trace};
-use zk_worker::{Answered, Log, MOST_ATTEMPTS, Player, Spot, Step};
+use zk_worker::{Answered, Answers, Log, MOST_ATTEMPTS, Player, Spot, Step};
 
 /// Whether an attempt can be the step that was found: a look needn't have had to find the signal raised.
 fn is_for(attempt: &Step, step: &Step) -> bool
@@ -96,23 +96,26 @@ fn astray(
     Ok(None)
 }
 
-/// Whether this answer is the one at a place.
-fn has_at(answers: &[Answered], place: usize, answer: &Answered) -> bool
-    ensures { IsTrue result ↔ HasAt answers.now place answer.now }
+/// Whether a player has this answer at a place.
+fn has_at(player: &Player, place: usize, answer: &Answered) -> bool
+    ensures { IsTrue result ↔ HasAt player.now.answers place answer.now }
 {
-    match answers.get(place) {
-        Some(own) => is_same_answer(own, answer),
+    match player.answered(place) {
+        Some(own) => is_same_answer(&own, answer),
         None => false,
     }
 }
 
 /// The first place of a log's answers where a player has another one, or none.
-fn other_answer(answers: &[Answered], logged: &[Answered]) -> Option<usize>
-    ensures { MatchOption result (HaveAll answers.now logged.now)
-        (λ place. IsFirst (IsOtherAt answers.now logged.now) place) }
+fn other_answer(player: &Player, logged: &Answers) -> Option<usize>
+    ensures { MatchOption result (HaveAll player.now.answers logged.now)
+        (λ place. IsFirst (IsOtherAt player.now.answers logged.now) place) }
 {
-    for (place, answer) in logged.iter().enumerate() {
-        if !has_at(answers, place, answer) {
+    for place in 0..logged.len() {
+        let Some(answer) = logged.get(place) else {
+            unreachable!()
+        };
+        if !has_at(player, place, &answer) {
             return Some(place);
         }
     }
@@ -124,7 +127,7 @@ fn stands_so(scenario: &Scenario, player: &Player, log: &Log) -> bool
     ensures { IsTrue result ↔
         ((length player.now.answers ≡ length log.now.answers) × (state_at scenario.now player.now ≡ log.now.state)) }
 {
-    player.answers().len() == log.answers.items().len() && player.state(scenario) == log.state
+    player.answer_count() == log.answers.len() && player.state(scenario) == log.state
 }
 
 /// Where a player whom all steps of its log lead here has another answer, or else doesn't stand so.
@@ -133,7 +136,7 @@ fn other_end(scenario: &Scenario, number: u32, log: &Log, player: &Player) -> Op
         MatchOption result (log_of scenario.now player.now ≡ log.now)
         (λ site. FailsLog scenario.now trace number site) }
 {
-    if let Some(place) = other_answer(player.answers(), log.answers.items()) {
+    if let Some(place) = other_answer(player, &log.answers) {
         return Some(Site::Answer(number, place as u64));
     }
     if stands_so(scenario, player, log) {

@@ -99,7 +99,7 @@ impl Caller {
     fn answers(&self) -> usize
         ensures { result ≡ length (place_of self.now).answers }
     {
-        self.player.answers().len()
+        self.player.answer_count()
     }
 
     // Whether no more than so many scripts are open.
@@ -113,10 +113,10 @@ impl Caller {
     fn answer_since(&self, before: usize, is_own: bool) -> Option<Answer>
         ensures { result ≡ answer_since (place_of self.now) before is_own }
     {
-        let answers = self.player.answers();
+        let count = self.player.answer_count();
         let is_dead = self.player.mode() == Mode::Dead;
-        if before < answers.len() && (is_own || is_dead) {
-            let answered = answers.last()?;
+        if before < count && (is_own || is_dead) {
+            let answered = self.player.answered(count - 1)?;
             return Some(answered.answer);
         }
         None

@@ -35,7 +35,11 @@ fn lines_of(alloc: Global, trace: &Trace) -> Result<String, NoMemory> {
     put_histories(&mut text, &trace.chans)?;
     put_histories(&mut text, &trace.observers)?;
     for log in trace.logs.items() {
-        put_all(&mut text, log.answers.items())?;
+        for place in 0..log.answers.len() {
+            if let Some(answered) = log.answers.get(place) {
+                write!(text, "{answered:?}\n")?;
+            }
+        }
     }
     Ok(text)
 }

@@ -183,7 +183,7 @@ impl Thread {
         assert_eq!(rt; player.who().number, 0);
         assert_eq!(rt; player.state(&self.scenario), PlayerState::Standing);
         assert_eq!(rt; player.steps(), 0);
-        assert!(rt; player.spots().is_empty() && player.answers().is_empty());
+        assert!(rt; player.spots().is_empty() && player.answer_count() == 0);
         assert!(rt; player.ahead(&self.scenario, 0).is_some());
         assert!(rt; player.ahead(&self.scenario, 1).is_none());
         assert!(rt; !player.is_done() && !player.is_through() && !player.is_spent(&self.scenario));
@@ -203,7 +203,8 @@ impl Thread {
 
     /// The last answer.
     fn answer(&self, alloc: Global) -> Result<String, NoMemory> {
-        let last = self.player.answers().last().copied();
+        let count = self.player.answer_count();
+        let last = self.player.answered(count.wrapping_sub(1));
         Ok(format!(in alloc; "{last:?}")?)
     }
 
@@ -225,7 +226,7 @@ impl Thread {
         let log = player.into_log(&scenario);
         assert_eq!(rt; log.state, state);
         assert_eq!(rt; log.steps.items().len(), steps);
-        assert_eq!(rt; log.answers.items().len(), answers);
+        assert_eq!(rt; log.answers.len(), answers);
     }
 }
 

@@ -1,12 +1,14 @@
-ghost use Rattle.std.specs.Prelude.{◌≡◌, IfOk};
+ghost use Rattle.std.specs.Prelude.{◌≡◌, None, IfOk};
 ghost use Rattle.zk_blocks.specs.Blocks.{Gives};
+ghost use Rattle.zk_blocks.specs.Rows.{rows_of};
+ghost use Rattle.zk_trace.specs.AnswerRead.{answered_of};
 ghost use Rattle.zk_trace.specs.WholeRead.{state_of, player_state_of, read_player, read_players};
 
 use crate::feed::Feed;
 use crate::hints::Hints;
 use crate::names::player_name;
 use crate::row_words::three_words;
-use crate::rows_read::read_rows;
+use crate::rows_read::read_row;
 use crate::sections::PLAYER;
 use crate::words::state_word;
 use std::alloc::Global;
@@ -45,6 +47,23 @@ fn player_state_of(name: &[u8], row: &[u8]) -> Option<PlayerState>
     }
 }
 
+/// The answers at the front of some lines.
+fn read_answers(
+    alloc: Global,
+    scenario: &Scenario,
+    hints: &Hints,
+    feed: &mut Feed<'_>,
+) -> Result<Answers, NoMemory>
+    ensures { IfOk result (λ answers.
+        rows_of (λ last. answered_of scenario.now.decls) None feed.old ≡ (answers, feed.new)) }
+{
+    let mut answers = Answers::new(alloc);
+    while let Some(answered) = read_row::<Answered>(alloc, scenario, hints, None, feed)? {
+        answers.push(&answered)?;
+    }
+    Ok(answers)
+}
+
 /// The section of a player; nothing where the lines don't go on so.
 fn read_player(
     alloc: Global,
@@ -63,8 +82,8 @@ fn read_player(
         return Ok(None);
     };
     feed.go_on(rest);
-    let answers = read_rows::<Answered>(alloc, scenario, hints, feed)?;
-    Ok(Some((state, Listed::from_vec(answers))))
+    let answers = read_answers(alloc, scenario, hints, feed)?;
+    Ok(Some((state, answers)))
 }
 
 /// The sections of all players.

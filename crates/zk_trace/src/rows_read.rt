@@ -51,7 +51,7 @@ pub fn read_rows<X: Row>(
 }
 
 /// The next row; nothing where the next line is none.
-fn read_row<X: Row>(
+pub fn read_row<X: Row>(
     alloc: Global,
     scenario: &Scenario,
     hints: &Hints,

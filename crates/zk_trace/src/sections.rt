@@ -1,5 +1,6 @@
 ghost use Rattle.std.specs.Prelude.{◌≡◌, ◌++◌, OnOk, drop};
-ghost use Rattle.zk_trace.specs.Text.{section_head, service_section, object_section, object_sections, looked_section, looks_at, looked_object, looked_sections, player_head, player_section, player_sections};
+ghost use Rattle.std.specs.List.{flat_map};
+ghost use Rattle.zk_trace.specs.Text.{section_head, service_section, object_section, object_sections, looked_section, looks_at, looked_object, looked_sections, player_head, player_section, player_sections, answer_line};
 
 use crate::History;
 use crate::lined::{Lined, put_lines};
@@ -9,7 +10,7 @@ use crate::words::state_word;
 use zk_base::{Entry, Listed, NoMemory};
 use zk_paper::Paper;
 use zk_scenario::Scenario;
-use zk_worker::{Log, PlayerState};
+use zk_worker::{Answers, Log, PlayerState};
 
 /// Appends the section of a service, where it did anything.
 pub fn put_service<O: Spelled, R: Spelled>(
@@ -166,7 +167,20 @@ fn put_player(
     ensures front { out.new.front ≡ out.old.front }
 {
     put_player_head(out, player_name(scenario, player), log.state)?;
-    put_lines(out, scenario, log.answers.items())
+    put_answers(out, scenario, &log.answers)
+}
+
+fn put_answers(out: &mut Paper, scenario: &Scenario, answers: &Answers) -> Result<(), NoMemory>
+    ensures text { OnOk result (out.new.put ≡ out.old.put ++ flat_map (answer_line scenario.now.decls) answers.now) }
+    ensures front { out.new.front ≡ out.old.front }
+{
+    for place in 0..answers.len() {
+        let Some(answered) = answers.get(place) else {
+            unreachable!()
+        };
+        answered.put_line(out, scenario)?;
+    }
+    Ok(())
 }
 
 fn put_player_head(out: &mut Paper, name: &[u8], state: PlayerState) -> Result<(), NoMemory>

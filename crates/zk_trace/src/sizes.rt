@@ -7,7 +7,7 @@ use crate::looks::{ItemLook, SignalLook};
 use crate::parts::answer_part;
 use crate::trace::Trace;
 use zk_base::{Entry, Listed};
-use zk_worker::{Answered, Log};
+use zk_worker::{Answered, Answers, Log};
 
 /// What has numbers, each of which is within its type.
 pub trait Sizes {
@@ -101,6 +101,21 @@ impl Sizes for Answered {
     fn sizes(&self) {
         narrow(self.step);
         answer_part(&self.answer).sizes();
+    }
+}
+
+impl Sizes for Answers {
+    ghost use Rattle.std.specs.Prelude.{All};
+
+    ghost sized = { All IsSizedAnswer };
+
+    fn sizes(&self) {
+        for place in 0..self.len() {
+            let Some(answered) = self.get(place) else {
+                unreachable!()
+            };
+            answered.sizes();
+        }
     }
 }
 

@@ -1,5 +1,7 @@
 pub mod DeclaredObjects
 pub mod Lists
+mod KeptAnswers
+pub mod Moving
 pub mod CheckedSteps
 pub mod Limits
 pub mod Starts

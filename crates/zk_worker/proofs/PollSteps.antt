@@ -1,12 +1,12 @@
 -- The attempts of a poll are few, and name what is declared.
-use Rattle.std.proofs.Common.{◌≡◌, ℕ, ◌≤◌, Bool, true, false, cond, Option, Some, None, option_to_list, List, [], ◌∷◌, ◌++◌, length, length-append, min, nat_le, take, All, refl, subst, arith}
+use Rattle.std.proofs.Common.{◌≡◌, ◌∙◌, ◌⊎◌, inl, inr, ℕ, get_or, zero, suc, ◌+◌, ◌<◌, ◌≤◌, Bool, true, false, cond, Option, Some, None, is_some, option_to_list, List, [], ◌∷◌, ◌++◌, length, length-append, min, nat_le, take, drop, set, All, refl, sym, ap, subst, arith}
 use Rattle.std.specs.List.{slice_get, position}
 use Rattle.std.specs.Option.{option_and_then}
 use Rattle.std.proofs.lemmas.Bool.{and_parts}
 use Rattle.std.proofs.lemmas.Bool.Decides.{nat_tests}
 use Rattle.std.proofs.lemmas.List.{length-take, take_all}
 use Rattle.std.proofs.lemmas.List.Elements.{All-nil, All-cons, All-head, All-tail, All-append, All-take}
-use Rattle.std.proofs.lemmas.Option.{option_and_then_some}
+use Rattle.std.proofs.lemmas.Option.{option_and_then_some, slice_get_read, slice_get_cases}
 use Rattle.zk_base.proofs.Lists.{All-at}
 use Rattle.zk_line.specs.declared.types.Decl.{Decl}
 use Rattle.zk_model_wait.specs.declared.clock.ClockOp.{ClockOp}
@@ -19,7 +19,7 @@ use Rattle.zk_line.specs.declared.events.Event.{Event}
 use Rattle.zk_line.specs.declared.events.Event.TheVariants.{Ignore, Sem, Msgq, Sig}
 use Rattle.zk_line.specs.declared.events.TheConstants.{MOST_EVENTS}
 use Rattle.zk_worker.specs.declared.frames.Mark.{Mark}
-use Rattle.zk_worker.specs.declared.frames.Mark.TheVariants.{Armed}
+use Rattle.zk_worker.specs.declared.frames.Mark.TheVariants.{Unasked, Armed}
 use Rattle.zk_worker.specs.declared.frames.Alarm.{Alarm}
 use Rattle.zk_worker.specs.declared.frames.Alarm.TheVariants.{Unset, Due}
 use Rattle.zk_worker.specs.declared.frames.Stage.{Stage}
@@ -30,7 +30,8 @@ use Rattle.zk_worker.specs.declared.steps.Step.TheVariants as steps
 use Rattle.zk_worker.specs.Families.{is_declared}
 use Rattle.zk_worker.specs.Machines.{sem_start, msgq_start, signal_start}
 use Rattle.zk_worker.specs.Ranges.{step_fits}
-use Rattle.zk_worker.specs.Polls.{fresh, is_armed, asks_more, unasked_from, ask_step, watch_step, drop_step, step_at, asking, dropping, watching, alarm_steps, is_closing, registers, polling, poll_start, poll_attempts}
+use Rattle.zk_worker.specs.Moves.{is_unasked, asks_behind, asks_from}
+use Rattle.zk_worker.specs.Polls.{fresh, is_armed, is_to_ask, marked, event_of, watched_from, asks_more, unasked_from, ask_step, watch_step, drop_step, step_at, asking, dropping, watching, alarm_steps, is_closing, registers, polling, poll_start, poll_attempts}
 use Rattle.zk_worker.specs.Refs.{ref_object}
 
 abbrev Fit : List Decl → Step → Type 0
@@ -192,3 +193,122 @@ pub poll_attempts-few : (timeout : Timeout) (events : List Event) (stage : Stage
 poll_attempts-few timeout events Start = start-few timeout events
 poll_attempts-few timeout events (Polls alarm marks) = polling-few timeout events alarm marks
 poll_attempts-few timeout events stage = omega arith
+
+not-asked : (event : Event) (mark : Mark) → is_unasked mark ≡ false → is_to_ask event mark ≡ false
+not-asked Ignore mark is = refl
+not-asked event Unasked is = absurd (cc)
+not-asked event mark is = refl
+
+-- where the first event that is to be asked has its mark, the next one is looked for behind it
+unasked-after : (n p : ℕ) (events : List Event) (marks : List Mark) (mark : Mark) → is_unasked mark ≡ false → unasked_from n events marks ≡ Some (n + p) →
+    unasked_from n events (set marks p mark) ≡ unasked_from (n + p + 1) (drop (p + 1) events) (drop (p + 1) marks)
+unasked-after n p [] marks mark asked is = absurd (cc)
+unasked-after n p (event ∷ events) [] mark asked is = absurd (cc)
+unasked-after n p (event ∷ events) (m ∷ marks) mark asked is = by p (is_to_ask event m) refl is
+  where
+    by : (p : ℕ) (b : Bool) → is_to_ask event m ≡ b → cond b (Some n) (unasked_from (n + 1) events marks) ≡ Some (n + p) →
+        unasked_from n (event ∷ events) (set (m ∷ marks) p mark) ≡ unasked_from (n + p + 1) (drop (p + 1) (event ∷ events)) (drop (p + 1) (m ∷ marks))
+    by zero b first is =
+        let same : n + 1 ≡ n + 0 + 1 = omega arith in
+        ap (λ (c : Bool). cond c (Some n) (unasked_from (n + 1) events marks)) (not-asked event mark asked)
+        ∙ ap (λ (k : ℕ). unasked_from k events marks) same
+    by (suc q) true first is = let same : n ≡ n + suc q = cc in absurd (omega (arith, same))
+    by (suc q) false first is =
+        let here : n + suc q ≡ n + 1 + q = omega arith in
+        let behind : n + 1 + q + 1 ≡ n + suc q + 1 = omega arith in
+        ap (λ (c : Bool). cond c (Some n) (unasked_from (n + 1) events (set marks q mark))) first
+        ∙ unasked-after (n + 1) q events marks mark asked (is ∙ ap (λ (k : ℕ). Some k) here)
+        ∙ ap (λ (k : ℕ). unasked_from k (drop (q + 1) events) (drop (q + 1) marks)) behind
+
+-- once it has its mark, an event is to be asked where one behind it is
+asks_marked : (events : List Event) (marks : List Mark) (place : ℕ) (mark : Mark) → is_unasked mark ≡ false → unasked_from 0 events marks ≡ Some place →
+    asks_more events (set marks place mark) ≡ asks_behind place events marks
+asks_marked events marks place mark asked first = ap (λ (o : Option ℕ). is_some o) (unasked-after 0 place events marks mark asked first)
+
+-- where none is to be asked, none is once an event has its mark
+unasked-none : (n p : ℕ) (events : List Event) (marks : List Mark) (mark : Mark) → is_unasked mark ≡ false → unasked_from n events marks ≡ None →
+    unasked_from n events (set marks p mark) ≡ None
+unasked-none n p [] marks mark asked is = refl
+unasked-none n p (event ∷ events) [] mark asked is = is
+unasked-none n p (event ∷ events) (m ∷ marks) mark asked is = by p (is_to_ask event m) refl is
+  where
+    by : (p : ℕ) (b : Bool) → is_to_ask event m ≡ b → cond b (Some n) (unasked_from (n + 1) events marks) ≡ None →
+        unasked_from n (event ∷ events) (set (m ∷ marks) p mark) ≡ None
+    by p true first is = absurd (cc)
+    by zero false first is = ap (λ (c : Bool). cond c (Some n) (unasked_from (n + 1) events marks)) (not-asked event mark asked) ∙ is
+    by (suc q) false first is =
+        ap (λ (c : Bool). cond c (Some n) (unasked_from (n + 1) events (set marks q mark))) first
+        ∙ unasked-none (n + 1) q events marks mark asked is
+
+-- whether more is to be asked once the event that a step is for has its mark
+pub asks-on : (events : List Event) (alarm : Alarm) (marks : List Mark) (made : Step) (mark : Mark) → is_unasked mark ≡ false → (unasked : Option ℕ) → unasked ≡ unasked_from 0 events marks →
+    asks_more events (marked marks (event_of events alarm marks made) mark) ≡ asks_from unasked events marks
+asks-on events alarm marks made mark asked (Some place) first =
+    let some : asks_more events marks ≡ true = ap (λ (o : Option ℕ). is_some o) (sym first) in
+    let here : event_of events alarm marks made ≡ Some place =
+    ap (λ (b : Bool). cond b (unasked_from 0 events marks) (cond (is_closing alarm marks) (position is_armed marks) (watched_from 0 made events marks))) some ∙ sym first in
+    ap (λ (o : Option ℕ). asks_more events (marked marks o mark)) here ∙ asks_marked events marks place mark asked (sym first)
+asks-on events alarm marks made mark asked None first = by (event_of events alarm marks made)
+  where
+    by : (place : Option ℕ) → asks_more events (marked marks place mark) ≡ false
+    by None = ap (λ (o : Option ℕ). is_some o) (sym first)
+    by (Some place) = ap (λ (o : Option ℕ). is_some o) (unasked-none 0 place events marks mark asked (sym first))
+
+unasked-within : (n place : ℕ) (events : List Event) (marks : List Mark) → unasked_from n events marks ≡ Some place →
+    (place < n + length events) × (place < n + length marks)
+unasked-within n place [] marks is = absurd (cc)
+unasked-within n place (event ∷ events) [] is = absurd (cc)
+unasked-within n place (event ∷ events) (mark ∷ marks) is = by (is_to_ask event mark) is
+  where
+    by : (b : Bool) → cond b (Some n) (unasked_from (n + 1) events marks) ≡ Some place → (place < n + length (event ∷ events)) × (place < n + length (mark ∷ marks))
+    by true is = let same : n ≡ place = cc in (omega (arith, same), omega (arith, same))
+    by false is = let more = unasked-within (n + 1) place events marks is in (omega (arith, more.0), omega (arith, more.1))
+
+-- the first event that is to be asked is one, and has a mark
+pub unasked_within : (events : List Event) (marks : List Mark) (place : ℕ) → unasked_from 0 events marks ≡ Some place →
+    (place < length events) × (place < length marks)
+unasked_within events marks place is = unasked-within 0 place events marks is
+
+at-first : (step : Option Step) → slice_get (option_to_list step) 0 ≡ step
+at-first None = refl
+at-first (Some step) = refl
+
+at-later : (step : Option Step) (k : ℕ) → slice_get (option_to_list step) (suc k) ≡ None
+at-later None k = refl
+at-later (Some step) k = refl
+
+-- the step that asks for the first event that is to be asked
+asking-at : (registers : Bool) (events : List Event) (marks : List Mark) (place : ℕ) (event : Event) → unasked_from 0 events marks ≡ Some place → slice_get events place ≡ Some event →
+    asking registers events marks ≡ ask_step registers event
+asking-at registers events marks place event first there =
+    ap (λ (o : Option ℕ). step_at (λ event mark. ask_step registers event) events marks o) first
+    ∙ ap (λ (o : Option Event). option_and_then (λ event. option_and_then (λ mark. ask_step registers event) (slice_get marks place)) o) there
+    ∙ by (slice_get_cases marks place).1
+  where
+    by : ((x : Mark) × (place < length marks) × (slice_get marks place ≡ Some x) × (get_or marks place x ≡ x)) ⊎ ((length marks ≤ place) × (slice_get marks place ≡ None)) →
+        option_and_then (λ mark. ask_step registers event) (slice_get marks place) ≡ ask_step registers event
+    by (inl marked) = ap (λ (o : Option Mark). option_and_then (λ mark. ask_step registers event) o) marked.2.1
+    by (inr behind) = let within = unasked_within events marks place first in absurd (omega (arith, within.1, behind.0))
+
+polling-asks : (timeout : Timeout) (events : List Event) (alarm : Alarm) (marks : List Mark) (place index : ℕ) → unasked_from 0 events marks ≡ Some place →
+    slice_get (polling timeout events alarm marks) index ≡ slice_get (option_to_list (asking (registers timeout marks) events marks)) index
+polling-asks timeout events alarm marks place index first =
+    let asks = option_to_list (asking (registers timeout marks) events marks) in
+    let drops = option_to_list (dropping events marks) in
+    let waits = watching (take MOST_EVENTS events) marks ++ alarm_steps alarm in
+    let more : asks_more events marks ≡ true = ap (λ (o : Option ℕ). is_some o) first in
+    ap (λ (b : Bool). slice_get (cond b asks (cond (is_closing alarm marks) drops waits)) index) more
+
+-- while an event is to be asked, the step that asks for it is the one attempt
+pub asked_first : (timeout : Timeout) (events : List Event) (alarm : Alarm) (marks : List Mark) (place : ℕ) (event : Event) → unasked_from 0 events marks ≡ Some place → event ≡ get_or events place event →
+    slice_get (polling timeout events alarm marks) 0 ≡ ask_step (registers timeout marks) event
+asked_first timeout events alarm marks place event first here =
+    let within = unasked_within events marks place first in
+    polling-asks timeout events alarm marks place 0 first ∙ at-first (asking (registers timeout marks) events marks)
+    ∙ asking-at (registers timeout marks) events marks place event first (slice_get_read events (length events) place event refl within.0 here)
+
+pub asked_later : (timeout : Timeout) (events : List Event) (alarm : Alarm) (marks : List Mark) (place index : ℕ) → unasked_from 0 events marks ≡ Some place → 0 < index →
+    slice_get (polling timeout events alarm marks) index ≡ None
+asked_later timeout events alarm marks place zero first later = absurd (omega arith)
+asked_later timeout events alarm marks place (suc k) first later =
+    polling-asks timeout events alarm marks place (suc k) first ∙ at-later (asking (registers timeout marks) events marks) k

@@ -11,7 +11,7 @@ use Rattle.zk_worker.specs.declared.steps.StepReply.{StepReply}
 use Rattle.zk_worker.specs.Machines.{Machines}
 use Rattle.zk_worker.specs.Shown.{Shown, OnlyOthersCame}
 use Rattle.zk_worker.specs.Attempt.{Counts, NoneFell, IsMade, reply_in, Attempted}
-use Rattle.zk_worker.specs.Playing.{WasTried, WereTried, WasFirst, WasNone, Tried}
+use Rattle.zk_worker.specs.Playing.{WasTried, WereTried, WasFirst, WasNone, made_of, Tried}
 use Rattle.zk_worker.proofs.Between.{between-none, between-both}
 
 -- a count that rose has risen still when none fell since
@@ -147,3 +147,19 @@ pub attempted-err : (alone alone' : Bool) (m m' : Machines) (who who' : Who) (nu
     Attempted alone' m' who' number' step old new (Err e) → OnlyOthersCame alone who.number old new
 attempted-err alone alone' m m' who who' number number' step old new e same_alone same_m same_who same_number attempted =
     attempted-same alone alone' m m' who who' number number' step old new (Err e) same_alone same_m same_who same_number attempted
+
+-- what was made is the step that was put, with its reply
+pub made-both : (told : Option StepReply) (put : Option Step) (reply : StepReply) (step : Step) → told ≡ Some reply → put ≡ Some step → made_of told put ≡ Some (step, reply)
+made-both told put reply step answered was = ap (λ (o : Option StepReply). made_of o put) answered ∙ ap (λ (o : Option Step). made_of (Some reply) o) was
+
+-- where there is no reply or no step, none was made
+pub made-none : (told : Option StepReply) (put : Option Step) → told ≡ None → made_of told put ≡ None
+made-none told put none = ap (λ (o : Option StepReply). made_of o put) none
+
+pub made-unput : (told : Option StepReply) (put : Option Step) (reply : StepReply) → told ≡ Some reply → put ≡ None → made_of told put ≡ None
+made-unput told put reply answered none = ap (λ (o : Option StepReply). made_of o put) answered ∙ ap (λ (o : Option Step). made_of (Some reply) o) none
+
+pub tried-with : (alone : Bool) (m : Machines) (who : Who) (number : ℕ) (ahead : List Step) (old new : Shown) (counts counts' : Counts) (put : Option Step) (step : Step) (reply : StepReply) →
+    put ≡ Some step → WasFirst alone m who number ahead step reply old new counts counts' → Tried alone m who number ahead old new counts counts' (made_of (Some reply) put)
+tried-with alone m who number ahead old new counts counts' put step reply was first =
+    subst (λ (o : Option (Step × StepReply)). Tried alone m who number ahead old new counts counts' o) (sym (ap (λ (o : Option Step). made_of (Some reply) o) was)) first

@@ -4,8 +4,10 @@ pub mod Checks
 pub mod Choosing
 pub mod Families
 pub mod Follows
+pub mod KeptAnswers
 pub mod Looks
 pub mod Machines
+pub mod Moves
 pub mod Next
 pub mod Places
 pub mod Playing

@@ -44,6 +44,12 @@ pub record WasNone (alone : Bool) (m : Machines) (who : Who) (ahead : List Step)
   pub others : OnlyOthersCame alone who.number old new
   pub tried : WereTried alone m who ahead (length ahead) old new counts counts'
 
+-- the step that was made and its reply, where there are both
+abbrev pub made_of : Option StepReply → Option Step → Option (Step × StepReply)
+made_of None ahead = None
+made_of (Some reply) None = None
+made_of (Some reply) (Some step) = Some (step, reply)
+
 -- what comes of these attempts, made in order up to the first that is possible
 abbrev pub Tried : Bool → Machines → Who → ℕ → List Step → Shown → Shown → Counts → Counts →
     Option (Step × StepReply) → Type 0

@@ -1,5 +1,10 @@
+ghost use Rattle.std.specs.Prelude.{◌≡◌, ◌++◌, [], ◌∷◌, length, OnOk, OnErr, slice_get};
+
 use crate::Positions;
-use zk_base::{Errno, Listed, Msg};
+use crate::answer_rows::AnswerRows;
+use std::alloc::Global;
+use std::marker::Model;
+use zk_base::{Errno, Msg, NoMemory};
 use zk_model_bus::OopsWhy;
 use zk_words::Word;
 
@@ -42,4 +47,56 @@ pub struct Answered {
 }
 
 /// The answered calls of a player, in the order of their answers.
-pub type Answers = Listed<Answered>;
+#[derive(Debug, Drop)]
+pub struct Answers {
+    rows: AnswerRows,
+}
+
+impl Model for Answers {
+    ghost use Rattle.std.specs.Prelude.{List};
+    ghost use Rattle.zk_worker.specs.declared.answers.Answered.{Answered};
+
+    ghost Value = { List Answered };
+
+    ghost view = { λ a. a.rows.items };
+}
+
+impl Answers {
+    /// None. It takes no memory.
+    pub fn new(alloc: Global) -> Answers
+        ensures { result ≡ [] }
+    {
+        Answers {
+            rows: AnswerRows::new(alloc),
+        }
+    }
+
+    /// Those that a player kept. It takes no memory.
+    pub fn from_rows(rows: AnswerRows) -> Answers
+        ensures { result ≡ rows.items }
+    {
+        Answers { rows }
+    }
+
+    /// How many they are.
+    pub fn len(&self) -> usize
+        ensures { result ≡ length self.now }
+    {
+        self.rows.len()
+    }
+
+    /// The answered call of this place, from 0.
+    pub fn get(&self, place: usize) -> Option<Answered>
+        ensures { result ≡ slice_get self.now place }
+    {
+        self.rows.get(place)
+    }
+
+    /// One more at the end.
+    pub fn push(&mut self, answered: &Answered) -> Result<(), NoMemory>
+        ensures ok { OnOk result (self.new ≡ self.old ++ answered.now ∷ []) }
+        ensures err { OnErr result (self.new ≡ self.old) }
+    {
+        self.rows.grow(answered)
+    }
+}

@@ -1,21 +1,17 @@
-ghost use Rattle.std.specs.Prelude.{◌≡◌, false, List, slice_get, option_map};
+ghost use Rattle.std.specs.Prelude.{◌≡◌, ◌<◌, ◌≤◌, false, List, slice_get, option_map, length};
 ghost use Rattle.zk_line.specs.Calls.{word_of};
 ghost use Rattle.zk_line.specs.declared.types.Decl.{Decl};
 ghost use Rattle.zk_worker.specs.Calls.{plan_of, closing_step, plan_attempts, plan_progress};
+ghost use Rattle.zk_worker.specs.Moves.{IsDone};
 ghost use Rattle.zk_worker.specs.Refs.{ref_object, ref_number};
-ghost use Rattle.zk_worker.specs.Polls.{poll_progress};
-ghost use Rattle.zk_worker.specs.Publishes.{channel_progress};
-ghost use Rattle.zk_worker.specs.Replies.{answer_of};
-ghost use Rattle.zk_worker.specs.Waits.{opening_progress, wait_progress};
 
-use crate::polls::{poll_ahead, poll_progress};
-use crate::publishes::{channel_ahead, channel_progress};
+use crate::moves::answer_by;
+use crate::polls::{poll_ahead, poll_goes_on};
+use crate::publishes::{channel_ahead, channel_goes_on};
 use crate::refs::{queue_number, ref_number, ref_object};
-use crate::replies::answer_of;
-use crate::waits::{opening_progress, wait_ahead, wait_progress};
-use crate::{Closing, Plan, Progress, Stage, Step, StepReply, Using, Waiting, Word};
+use crate::waits::{open_wait, wait_ahead, wait_goes_on};
+use crate::{AnswerRows, Closing, Moved, Plan, Stage, Step, StepReply, Using, Waiting, Word};
 use zk_base::Msg;
-use zk_line::Events;
 use zk_model_bus::{ChanOp, ObsOp, TableOp};
 use zk_model_wait::{ClockOp, MsgqOp, SemOp, SignalOp};
 use zk_model_work::WorkOp;
@@ -441,114 +437,101 @@ pub fn call_ahead(
     }
 }
 
-/// A call that has its answer by this reply.
-// What a reply does is put where it is kept, here and below, as an attempt is.
-fn answers(word: Word, reply: &StepReply, progress: &mut Progress)
-    ensures { progress.new ≡ Progress.Answers word (answer_of reply.now) }
-{
-    *progress = Progress::Answers(word, answer_of(reply));
-}
-
-/// A call that may wait from this reply on.
-fn opens(word: Word, reply: &StepReply, progress: &mut Progress)
-    ensures { progress.new ≡ opening_progress word reply.now }
-{
-    *progress = opening_progress(word, reply);
-}
-
-/// A call that has made the first of its two steps.
-fn is_halfway(progress: &mut Progress)
-    ensures { progress.new ≡ Progress.Goes Stage.Halfway }
-{
-    *progress = Progress::Goes(Stage::Halfway);
-}
-
-/// A call that waits at an object.
-fn waits_on(word: Word, stage: &Stage, reply: &StepReply, progress: &mut Progress)
-    ensures { progress.new ≡ wait_progress word stage.now reply.now }
-{
-    *progress = wait_progress(word, stage, reply);
-}
-
-/// A poll.
-fn polls_on(
-    timeout: Timeout,
-    events: &Events,
-    stage: &Stage,
-    made: &Step,
+/// A call that makes a step and perhaps the one that ends its wait.
+fn pair_goes_on(
+    word: Word,
     reply: &StepReply,
-    progress: &mut Progress,
-)
-    ensures { progress.new ≡ poll_progress Word.Poll timeout events.now stage.now made.now reply.now }
+    step: u32,
+    stage: &mut Stage,
+    answers: &mut AnswerRows,
+) -> Moved
+    requires { length answers.old.items < answers.old.room }
+    ensures done { (opening made : Step) (closing : Closing) → IsDone step
+        (plan_progress word (Plan.Pair opening closing) stage.old made reply.now)
+        result stage.new answers.old.items answers.new.items }
+    ensures capacity { answers.old.room ≤ answers.new.room }
 {
-    poll_progress(Word::Poll, timeout, events, stage, made, reply, progress);
+    match &*stage {
+        Stage::Start => open_wait(word, reply, step, stage, answers),
+        _ => answer_by(word, reply, step, stage, answers),
+    }
 }
 
-/// A call that uses a channel.
-fn uses_channel(word: Word, stage: &Stage, reply: &StepReply, progress: &mut Progress)
-    ensures { progress.new ≡ channel_progress word stage.now reply.now }
+/// Both services that have a time go on: the second step answers the call.
+fn tick_goes_on(reply: &StepReply, step: u32, stage: &mut Stage, answers: &mut AnswerRows) -> Moved
+    requires { length answers.old.items < answers.old.room }
+    ensures done { (first second made : Step) → IsDone step
+        (plan_progress Word.Tick (Plan.Twice first second) stage.old made reply.now)
+        result stage.new answers.old.items answers.new.items }
+    ensures capacity { answers.old.room ≤ answers.new.room }
 {
-    *progress = channel_progress(word, stage, reply);
+    match &*stage {
+        Stage::Start => {
+            *stage = Stage::Halfway;
+            Moved::Goes
+        }
+        _ => answer_by(Word::Tick, reply, step, stage, answers),
+    }
 }
 
-/// What the reply to a step does to its call, by the kind of the call's plan: none is made.
-pub fn call_progress(
+/// Does what the reply to a step does to its call, by the kind of the call's plan: none is made.
+pub fn call_goes_on(
     call: &Call,
-    stage: &Stage,
     made: &Step,
     reply: &StepReply,
-    progress: &mut Progress,
-)
-    ensures { (decls : List Decl) →
-        progress.new ≡ plan_progress (word_of call.now) (plan_of decls call.now) stage.now made.now reply.now }
+    step: u32,
+    stage: &mut Stage,
+    answers: &mut AnswerRows,
+) -> Moved
+    requires { length answers.old.items < answers.old.room }
+    ensures done { (decls : List Decl) → IsDone step
+        (plan_progress (word_of call.now) (plan_of decls call.now) stage.old made.now reply.now)
+        result stage.new answers.old.items answers.new.items }
+    ensures capacity { answers.old.room ≤ answers.new.room }
 {
-    match (call, stage) {
-        (Call::CancelSync(_), Stage::Start) => opens(Word::CancelSync, reply, progress),
-        (Call::CancelSync(_), _) => answers(Word::CancelSync, reply, progress),
-        (Call::Flush(_), Stage::Start) => opens(Word::Flush, reply, progress),
-        (Call::Flush(_), _) => answers(Word::Flush, reply, progress),
-        (Call::Drain(_, _), Stage::Start) => opens(Word::Drain, reply, progress),
-        (Call::Drain(_, _), _) => answers(Word::Drain, reply, progress),
-        (Call::Tick(_), Stage::Start) => is_halfway(progress),
-        (Call::Tick(_), _) => answers(Word::Tick, reply, progress),
-        (Call::Take(_, _), _) => waits_on(Word::Take, stage, reply, progress),
-        (Call::Put(_, _, _), _) => waits_on(Word::Put, stage, reply, progress),
-        (Call::Get(_, _), _) => waits_on(Word::Get, stage, reply, progress),
-        (Call::Claim(_, _), _) => waits_on(Word::Claim, stage, reply, progress),
-        (Call::SubWait(_, _), _) => waits_on(Word::SubWait, stage, reply, progress),
-        (Call::Poll(timeout, events), _) => polls_on(
-            *timeout, events, stage, made, reply, progress,
-        ),
-        (Call::Publish(_, _, _), _) => uses_channel(Word::Publish, stage, reply, progress),
-        (Call::Notify(_, _), _) => uses_channel(Word::Notify, stage, reply, progress),
-        (Call::Read(_, _), _) => uses_channel(Word::Read, stage, reply, progress),
-        (Call::Submit(_, _), _) => answers(Word::Submit, reply, progress),
-        (Call::Cancel(_), _) => answers(Word::Cancel, reply, progress),
-        (Call::Schedule(_, _, _), _) => answers(Word::Schedule, reply, progress),
-        (Call::Reschedule(_, _, _), _) => answers(Word::Reschedule, reply, progress),
-        (Call::Remaining(_), _) => answers(Word::Remaining, reply, progress),
-        (Call::Busy(_), _) => answers(Word::Busy, reply, progress),
-        (Call::Start(_), _) => answers(Word::Start, reply, progress),
-        (Call::Unplug(_), _) => answers(Word::Unplug, reply, progress),
-        (Call::Give(_), _) => answers(Word::Give, reply, progress),
-        (Call::Reset(_), _) => answers(Word::Reset, reply, progress),
-        (Call::Count(_), _) => answers(Word::Count, reply, progress),
-        (Call::Peek(_), _) => answers(Word::Peek, reply, progress),
-        (Call::PeekAt(_, _), _) => answers(Word::PeekAt, reply, progress),
-        (Call::Purge(_), _) => answers(Word::Purge, reply, progress),
-        (Call::Used(_), _) => answers(Word::Used, reply, progress),
-        (Call::Free(_), _) => answers(Word::Free, reply, progress),
-        (Call::Raise(_, _), _) => answers(Word::Raise, reply, progress),
-        (Call::Clear(_), _) => answers(Word::Clear, reply, progress),
-        (Call::Check(_), _) => answers(Word::Check, reply, progress),
-        (Call::Finish(_), _) => answers(Word::Finish, reply, progress),
-        (Call::Mask(_, _, _), _) => answers(Word::Mask, reply, progress),
-        (Call::Enable(_, _), _) => answers(Word::Enable, reply, progress),
-        (Call::Grant(_, _), _) => answers(Word::Grant, reply, progress),
-        (Call::Release(_), _) => answers(Word::Release, reply, progress),
-        (Call::Revoke(_, _), _) => answers(Word::Revoke, reply, progress),
-        (Call::Public(_), _) => answers(Word::Public, reply, progress),
-        (Call::Init(_), _) => answers(Word::Init, reply, progress),
-        (Call::User, _) => answers(Word::User, reply, progress),
+    match call {
+        Call::CancelSync(_) => pair_goes_on(Word::CancelSync, reply, step, stage, answers),
+        Call::Flush(_) => pair_goes_on(Word::Flush, reply, step, stage, answers),
+        Call::Drain(_, _) => pair_goes_on(Word::Drain, reply, step, stage, answers),
+        Call::Tick(_) => tick_goes_on(reply, step, stage, answers),
+        Call::Take(_, _) => wait_goes_on(Word::Take, reply, step, stage, answers),
+        Call::Put(_, _, _) => wait_goes_on(Word::Put, reply, step, stage, answers),
+        Call::Get(_, _) => wait_goes_on(Word::Get, reply, step, stage, answers),
+        Call::Claim(_, _) => wait_goes_on(Word::Claim, reply, step, stage, answers),
+        Call::SubWait(_, _) => wait_goes_on(Word::SubWait, reply, step, stage, answers),
+        Call::Poll(timeout, events) => {
+            poll_goes_on(*timeout, events, made, reply, step, stage, answers)
+        }
+        Call::Publish(_, _, _) => channel_goes_on(Word::Publish, reply, step, stage, answers),
+        Call::Notify(_, _) => channel_goes_on(Word::Notify, reply, step, stage, answers),
+        Call::Read(_, _) => channel_goes_on(Word::Read, reply, step, stage, answers),
+        Call::Submit(_, _) => answer_by(Word::Submit, reply, step, stage, answers),
+        Call::Cancel(_) => answer_by(Word::Cancel, reply, step, stage, answers),
+        Call::Schedule(_, _, _) => answer_by(Word::Schedule, reply, step, stage, answers),
+        Call::Reschedule(_, _, _) => answer_by(Word::Reschedule, reply, step, stage, answers),
+        Call::Remaining(_) => answer_by(Word::Remaining, reply, step, stage, answers),
+        Call::Busy(_) => answer_by(Word::Busy, reply, step, stage, answers),
+        Call::Start(_) => answer_by(Word::Start, reply, step, stage, answers),
+        Call::Unplug(_) => answer_by(Word::Unplug, reply, step, stage, answers),
+        Call::Give(_) => answer_by(Word::Give, reply, step, stage, answers),
+        Call::Reset(_) => answer_by(Word::Reset, reply, step, stage, answers),
+        Call::Count(_) => answer_by(Word::Count, reply, step, stage, answers),
+        Call::Peek(_) => answer_by(Word::Peek, reply, step, stage, answers),
+        Call::PeekAt(_, _) => answer_by(Word::PeekAt, reply, step, stage, answers),
+        Call::Purge(_) => answer_by(Word::Purge, reply, step, stage, answers),
+        Call::Used(_) => answer_by(Word::Used, reply, step, stage, answers),
+        Call::Free(_) => answer_by(Word::Free, reply, step, stage, answers),
+        Call::Raise(_, _) => answer_by(Word::Raise, reply, step, stage, answers),
+        Call::Clear(_) => answer_by(Word::Clear, reply, step, stage, answers),
+        Call::Check(_) => answer_by(Word::Check, reply, step, stage, answers),
+        Call::Finish(_) => answer_by(Word::Finish, reply, step, stage, answers),
+        Call::Mask(_, _, _) => answer_by(Word::Mask, reply, step, stage, answers),
+        Call::Enable(_, _) => answer_by(Word::Enable, reply, step, stage, answers),
+        Call::Grant(_, _) => answer_by(Word::Grant, reply, step, stage, answers),
+        Call::Release(_) => answer_by(Word::Release, reply, step, stage, answers),
+        Call::Revoke(_, _) => answer_by(Word::Revoke, reply, step, stage, answers),
+        Call::Public(_) => answer_by(Word::Public, reply, step, stage, answers),
+        Call::Init(_) => answer_by(Word::Init, reply, step, stage, answers),
+        Call::User => answer_by(Word::User, reply, step, stage, answers),
     }
 }

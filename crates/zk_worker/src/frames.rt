@@ -138,6 +138,17 @@ pub struct Frame {
     pub stage: Stage,
 }
 
+/// How a frame goes on by the reply to its step, where its stage and the answer stand already.
+#[derive(Clone, Copy, Debug, PartialEq, Eq)]
+pub enum Moved {
+    /// It goes on at its stage.
+    Goes,
+    /// The call is answered.
+    Answers,
+    /// The script of this object is played next.
+    Enters(u32),
+}
+
 /// What a reply does to the frame whose step it answers.
 #[derive(Clone, Copy, Debug)]
 pub enum Progress {

@@ -1,11 +1,13 @@
 //! The call protocol, and the player that follows it through its script.
 #![tactic(auto)]
 
+mod answer_rows;
 mod answers;
 mod calls;
 mod checks;
 mod frames;
 mod log;
+mod moves;
 mod player;
 mod playing;
 mod polls;
@@ -19,9 +21,10 @@ mod stack;
 mod steps;
 mod waits;
 
+pub use answer_rows::{AnswerRow, AnswerRows, Brief};
 pub use answers::{Answer, Answered, Answers};
 pub use checks::{Check, Mode};
-pub use frames::{Alarm, Closing, Frame, Mark, Plan, Progress, Role, Stage, Using, Waiting};
+pub use frames::{Alarm, Closing, Frame, Mark, Moved, Plan, Progress, Role, Stage, Using, Waiting};
 pub use log::{Log, PlayerState};
 pub use player::Player;
 pub use playing::Stepped;

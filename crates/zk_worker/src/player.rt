@@ -14,11 +14,9 @@ ghost use Rattle.zk_worker.specs.Attempt.{IsMade};
 use crate::checks::{check_step, mode_after, next_check, oops_in, start_mode};
 use crate::frames::MOST_FRAMES;
 use crate::protocol::spot_of;
-use crate::stack::{
-    frames_ahead, frames_progress, move_frames, open_frame, put_answer, settle, top_call,
-};
+use crate::stack::{frames_ahead, open_frame, settle, stack_goes_on, top_call};
 use crate::{
-    Answer, Answered, Answers, Check, Frame, Log, Mode, PlayerState, Progress, Role, Spot, Spots,
+    Answer, AnswerRows, Answered, Answers, Check, Frame, Log, Mode, PlayerState, Role, Spot, Spots,
     Stage, Step, StepReply, Word,
 };
 use std::alloc::Global;
@@ -38,7 +36,7 @@ pub struct Player {
     passed: u32,
     // The open scripts and runs, the innermost last.
     stack: Vec<Frame>,
-    answers: Vec<Answered>,
+    answers: AnswerRows,
     spots: Vec<Spot>,
 }
 
@@ -60,7 +58,7 @@ impl Model for Player {
 
     ghost invariant = { λ p.
         IsRoomy p.passed (reverse p.stack.items) p.answers.items p.spots.items
-        (vec_capacity p.stack) (vec_capacity p.answers) (vec_capacity p.spots) };
+        (vec_capacity p.stack) p.answers.room (vec_capacity p.spots) };
 }
 
 fn object_of(scenario: &Scenario, number: u32) -> Option<u32>
@@ -161,7 +159,7 @@ impl Player {
             mode: start_mode(decl),
             passed: 0,
             stack,
-            answers: Vec::with_capacity(alloc, MOST_STEPS as usize)?,
+            answers: AnswerRows::with_capacity(alloc, MOST_STEPS as usize)?,
             spots: Vec::with_capacity(alloc, MOST_STEPS as usize)?,
         })
     }
@@ -244,7 +242,7 @@ impl Player {
             Some(why) => {
                 let step = self.spots.len() as u32;
                 let answer = Answer::Oops(why);
-                push_within(&mut self.answers, Answered { step, word, answer });
+                self.answers.push(step, word, &answer);
                 self.mode = Mode::Dead;
                 self.passed = 0;
                 self.stack.clear();
@@ -260,10 +258,14 @@ impl Player {
             (frames_progress scenario.now self.old.frames step.now reply.now) (spot_of step.now reply.now) }
     {
         let number = self.spots.len() as u32;
-        let mut progress = Progress::Goes(Stage::Start);
-        frames_progress(scenario, &self.stack, step, reply, &mut progress);
-        put_answer(&mut self.answers, number, &progress);
-        move_frames(scenario, &mut self.stack, &progress);
+        stack_goes_on(
+            scenario,
+            &mut self.stack,
+            step,
+            reply,
+            number,
+            &mut self.answers,
+        );
         self.mode = mode_after(self.mode, step);
         self.passed = 0;
         push_within(&mut self.spots, spot_of(step, reply));
@@ -345,11 +347,18 @@ impl Player {
         &self.spots
     }
 
-    /// The answered calls, in the order of their answers.
-    pub fn answers(&self) -> &[Answered]
-        ensures { result.now ≡ self.now.answers }
+    /// How many calls have their answers.
+    pub fn answer_count(&self) -> usize
+        ensures { result ≡ length self.now.answers }
     {
-        &self.answers
+        self.answers.len()
+    }
+
+    /// The answered call of this place, in the order of the answers, from 0.
+    pub fn answered(&self, place: usize) -> Option<Answered>
+        ensures { result ≡ slice_get self.now.answers place }
+    {
+        self.answers.get(place)
     }
 
     /// What it has done.
@@ -368,7 +377,7 @@ impl Player {
         Log {
             state,
             steps: Spots::from_vec(spots),
-            answers: Answers::from_vec(answers),
+            answers: Answers::from_rows(answers),
         }
     }
 }

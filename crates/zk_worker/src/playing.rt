@@ -8,7 +8,7 @@ ghost use Rattle.zk_worker.specs.Machines.{machines_of};
 ghost use Rattle.zk_worker.specs.Shown.{ShowsLog, AreShort, OnlyOthersCame};
 ghost use Rattle.zk_worker.specs.Right.{LooksRight};
 ghost use Rattle.zk_worker.specs.Attempt.{is_in_range, SamePlayers};
-ghost use Rattle.zk_worker.specs.Playing.{Tried, StepOutcome};
+ghost use Rattle.zk_worker.specs.Playing.{made_of, Tried, StepOutcome};
 
 use crate::steps::MOST_ATTEMPTS;
 use crate::{Player, Services, Step, StepReply};
@@ -28,24 +28,22 @@ pub enum Stepped {
     Spent,
 }
 
-/// Makes the attempts of a player in order, up to the first that is possible, and puts it and its reply where there is none.
-// Not handed out: they are large, and would be moved once for each layer of the answer.
+/// Makes the attempts of a player in order, up to the first that is possible, puts that one and hands out its reply.
 fn try_ahead<V: Services>(
     services: &mut V,
     scenario: &Scenario,
     player: &Player,
-    made: &mut Option<(Step, StepReply)>,
-) -> Result<(), NoMemory>
-    requires none { made.old ≡ None }
+    ahead: &mut Option<Step>,
+) -> Result<Option<StepReply>, NoMemory>
     requires served { V.serves services.old player.now.who }
     requires range { (step : Step) → IsAhead scenario.now player.now step →
         is_in_range (V.machines services.old) step ≡ true }
     requires log { ShowsLog (V.shown services.old) player.now.who.number player.now.spots }
     requires short { V.alone services.old ≡ true → AreShort (V.shown services.old) }
-    ensures tried { IfOk result (λ _.
+    ensures tried { IfOk result (λ told.
         Tried (V.alone services.old) (V.machines services.old)
         player.now.who (length player.now.spots) (attempts scenario.now player.now)
-        (V.shown services.old) (V.shown services.new) (V.counts services.old) (V.counts services.new) made.new) }
+        (V.shown services.old) (V.shown services.new) (V.counts services.old) (V.counts services.new) (made_of told ahead.new)) }
     ensures err { OnErr result (OnlyOthersCame (V.alone services.old) player.now.who.number
         (V.shown services.old) (V.shown services.new)) }
     ensures machines { V.machines services.new ≡ V.machines services.old }
@@ -54,17 +52,15 @@ fn try_ahead<V: Services>(
     ensures home { V.home services.new ≡ V.home services.old }
 {
     for index in 0..MOST_ATTEMPTS {
-        let mut ahead = None;
-        player.put_ahead(scenario, index, &mut ahead);
-        let Some(step) = &ahead else {
-            return Ok(());
+        player.put_ahead(scenario, index, ahead);
+        let Some(step) = &*ahead else {
+            return Ok(None);
         };
         if let Some(reply) = services.attempt(player.who(), player.steps(), step)? {
-            *made = Some((*step, reply));
-            return Ok(());
+            return Ok(Some(reply));
         }
     }
-    Ok(())
+    Ok(None)
 }
 
 impl Player {
@@ -110,14 +106,15 @@ impl Player {
         if self.is_through() {
             return Ok(Stepped::Ended);
         }
-        let mut made = None;
-        try_ahead(services, scenario, self, &mut made)?;
-        match &made {
-            Some((step, reply)) => {
-                self.made(scenario, step, reply);
-                Ok(Stepped::Did)
-            }
-            None => Ok(Stepped::NotYet),
-        }
+        let mut ahead = None;
+        let told = try_ahead(services, scenario, self, &mut ahead)?;
+        let Some(reply) = &told else {
+            return Ok(Stepped::NotYet);
+        };
+        let Some(step) = &ahead else {
+            return Ok(Stepped::NotYet);
+        };
+        self.made(scenario, step, reply);
+        Ok(Stepped::Did)
     }
 }

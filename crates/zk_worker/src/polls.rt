@@ -1,11 +1,13 @@
-ghost use Rattle.std.specs.Prelude.{◌≡◌, ◌++◌, ◌+◌, ◌≤◌, Some, length, slice_get, option_to_list};
+ghost use Rattle.std.specs.Prelude.{◌≡◌, ◌++◌, ◌+◌, ◌<◌, ◌≤◌, false, Some, List, drop, length, slice_get, option_to_list};
 ghost use Rattle.std.specs.List.{list_any, position};
+ghost use Rattle.zk_worker.specs.Moves.{IsDone, is_unasked, poll_further};
 ghost use Rattle.zk_worker.specs.Polls.{waits, is_armed, is_ready, is_to_ask, unasked_from, asks_more, ask_step, watch_step, drop_step};
 ghost use Rattle.zk_worker.specs.Polls.{step_at, dropping, watching, alarm_steps, is_ended, is_closing, registers, polling, poll_start, poll_attempts};
-ghost use Rattle.zk_worker.specs.Polls.{mark_of, is_watch, watched_from, event_of, marked, alarm_after, ready_from, poll_answer, is_answered, poll_goes, polled, poll_progress};
+ghost use Rattle.zk_worker.specs.Polls.{mark_of, is_watch, watched_from, event_of, marked, alarm_after, ready_from, poll_answer, is_answered, poll_goes, poll_progress};
 
+use crate::moves::answer_call;
 use crate::refs::ref_object;
-use crate::{Alarm, Answer, Mark, Positions, Progress, Stage, Step, StepReply, Word};
+use crate::{Alarm, Answer, AnswerRows, Mark, Moved, Positions, Stage, Step, StepReply, Word};
 use zk_base::Errno;
 use zk_line::{Event, Events, MOST_EVENTS};
 use zk_model_wait::{ClockOp, ClockReply, MsgqOp, MsgqReply, SemOp, SemReply};
@@ -57,8 +59,8 @@ fn first_armed(marks: &[Mark]) -> Option<usize>
     marks.iter().position(|mark| is_armed(*mark))
 }
 
-fn is_to_ask(event: Event, mark: Mark) -> bool
-    ensures { result ≡ is_to_ask event mark }
+fn is_to_ask(event: &Event, mark: Mark) -> bool
+    ensures { result ≡ is_to_ask event.now mark }
 {
     match (event, mark) {
         (Event::Ignore, _) => false,
@@ -67,44 +69,32 @@ fn is_to_ask(event: Event, mark: Mark) -> bool
     }
 }
 
-/// The place of the first event that is still to be asked, counted from this number.
-fn unasked_from(n: usize, events: &[Event], marks: &[Mark]) -> Option<usize>
-    requires { n + length events.now ≤ MOST_EVENTS }
-    ensures { result ≡ unasked_from n events.now marks.now }
+/// The place of the first event that is still to be asked, from this place on.
+fn unasked_from(n: usize, events: &[Event], marks: &[Mark; MOST_EVENTS]) -> Option<usize>
+    requires { length events.now ≤ MOST_EVENTS }
+    ensures { result ≡ unasked_from n (drop n events.now) (drop n marks.now) }
 {
-    let (mut n, mut events, mut marks) = (n, events, marks);
-    loop {
-        let [event, later @ ..] = events else {
-            return None;
-        };
-        let [mark, rest @ ..] = marks else {
-            return None;
-        };
-        if is_to_ask(*event, *mark) {
+    let mut n = n;
+    while n < events.len() {
+        if is_to_ask(&events[n], marks[n]) {
             return Some(n);
         }
         n += 1;
-        events = later;
-        marks = rest;
     }
+    None
 }
 
-fn asks_more(events: &[Event], marks: &[Mark]) -> bool
-    requires { length events.now ≤ MOST_EVENTS }
-    ensures { result ≡ asks_more events.now marks.now }
-{
-    unasked_from(0, events, marks).is_some()
-}
-
-/// The step that asks for an event.
-fn ask_step(registers: bool, event: Event) -> Option<Step>
-    ensures { result ≡ ask_step registers event }
+/// Puts the step that asks for an event.
+fn ask_ahead(registers: bool, event: &Event, ahead: &mut Option<Step>)
+    ensures { ahead.new ≡ ask_step registers event.now }
 {
     match event {
-        Event::Ignore => None,
-        Event::Sem(sem) => Some(Step::Sem(ref_object(sem), SemOp::PollArm(registers))),
-        Event::Msgq(queue) => Some(Step::Msgq(ref_object(queue), MsgqOp::PollArm(registers))),
-        Event::Sig(signal) => Some(Step::LookSignal(ref_object(signal), false)),
+        Event::Ignore => *ahead = None,
+        Event::Sem(sem) => *ahead = Some(Step::Sem(ref_object(*sem), SemOp::PollArm(registers))),
+        Event::Msgq(queue) => {
+            *ahead = Some(Step::Msgq(ref_object(*queue), MsgqOp::PollArm(registers)));
+        }
+        Event::Sig(signal) => *ahead = Some(Step::LookSignal(ref_object(*signal), false)),
     }
 }
 
@@ -137,16 +127,6 @@ fn drop_step(event: Event, mark: Mark) -> Option<Step>
         }
         _ => None,
     }
-}
-
-/// The step that asks for the event at this place.
-fn ask_at(registers: bool, events: &[Event], marks: &[Mark], place: usize) -> Option<Step>
-    ensures { result ≡
-        step_at (λ event mark. ask_step registers event) events.now marks.now (Some place) }
-{
-    let event = events.get(place).copied()?;
-    let _ = marks.get(place).copied()?;
-    ask_step(registers, event)
 }
 
 /// The step that gives the first registration up.
@@ -213,38 +193,59 @@ fn registers(timeout: Timeout, marks: &[Mark]) -> bool
     waits(timeout) && !any_ready(marks)
 }
 
-/// The attempt of this index of a poll with this alarm and these marks.
+/// Puts the attempt of this index of a poll that asks no more: it gives up what is registered, or waits.
+// Out of line: a poll asks more often than it waits.
+#[inline(never)]
 #[tactic(auto, using(crate::proofs::PollSteps::all_taken))]
-fn polling_ahead(
-    timeout: Timeout,
+fn waiting_ahead(
     events: &[Event],
     alarm: Alarm,
     marks: &[Mark],
     index: u32,
-) -> Option<Step>
+    ahead: &mut Option<Step>,
+)
     requires { length events.now ≤ MOST_EVENTS }
-    ensures { result ≡ slice_get (polling timeout events.now alarm marks.now) index }
+    ensures { (timeout : Timeout) → asks_more events.now marks.now ≡ false →
+        ahead.new ≡ slice_get (polling timeout events.now alarm marks.now) index }
 {
-    if let Some(place) = unasked_from(0, events, marks) {
-        let registers = registers(timeout, marks);
-        return at_first(ask_at(registers, events, marks, place), index);
-    }
-    if is_closing(alarm, marks) {
-        return at_first(dropping(events, marks), index);
-    }
-    watch_ahead(events, marks, alarm, index)
+    *ahead = if is_closing(alarm, marks) {
+        at_first(dropping(events, marks), index)
+    } else {
+        watch_ahead(events, marks, alarm, index)
+    };
 }
 
-fn start_ahead(timeout: Timeout, events: &[Event], index: u32) -> Option<Step>
+/// Puts the attempt of this index of a poll with this alarm and these marks.
+fn polling_ahead(
+    timeout: Timeout,
+    events: &[Event],
+    alarm: Alarm,
+    marks: &[Mark; MOST_EVENTS],
+    index: u32,
+    ahead: &mut Option<Step>,
+)
     requires { length events.now ≤ MOST_EVENTS }
-    ensures { result ≡ slice_get (poll_start timeout events.now) index }
+    ensures { ahead.new ≡ slice_get (polling timeout events.now alarm marks.now) index }
 {
-    let marks = [Mark::Unasked; MOST_EVENTS];
-    match timeout {
-        Timeout::No => polling_ahead(timeout, events, Alarm::Unset, &marks, index),
-        Timeout::Ticks(ticks) => at_first(Some(Step::Clock(ClockOp::Alarm(ticks))), index),
-        Timeout::Forever => polling_ahead(timeout, events, Alarm::Unset, &marks, index),
+    match unasked_from(0, events, marks) {
+        Some(place) if index == 0 => {
+            ask_ahead(registers(timeout, &marks[..]), &events[place], ahead);
+        }
+        Some(_) => *ahead = None,
+        None => waiting_ahead(events, alarm, &marks[..], index, ahead),
     }
+}
+
+fn start_ahead(timeout: Timeout, events: &[Event], index: u32, ahead: &mut Option<Step>)
+    requires { length events.now ≤ MOST_EVENTS }
+    ensures { ahead.new ≡ slice_get (poll_start timeout events.now) index }
+{
+    if let Timeout::Ticks(ticks) = timeout {
+        *ahead = at_first(Some(Step::Clock(ClockOp::Alarm(ticks))), index);
+        return;
+    }
+    let marks = [Mark::Unasked; MOST_EVENTS];
+    polling_ahead(timeout, events, Alarm::Unset, &marks, index, ahead);
 }
 
 /// Puts the attempt of this index among the next attempts of a poll.
@@ -259,16 +260,17 @@ pub fn poll_ahead(
     ensures { ahead.new ≡ slice_get (poll_attempts timeout events.now stage.now) index }
 {
     let events = events.items();
-    *ahead = match stage {
-        Stage::Start => start_ahead(timeout, events, index),
-        Stage::Polls(alarm, marks) => polling_ahead(timeout, events, *alarm, marks, index),
-        _ => None,
-    };
+    match stage {
+        Stage::Start => start_ahead(timeout, events, index, ahead),
+        Stage::Polls(alarm, marks) => polling_ahead(timeout, events, *alarm, marks, index, ahead),
+        _ => *ahead = None,
+    }
 }
 
 /// The mark that a reply gives to its event.
 fn mark_of(reply: &StepReply) -> Mark
-    ensures { result ≡ mark_of reply.now }
+    ensures mark { result ≡ mark_of reply.now }
+    ensures asked { is_unasked result ≡ false }
 {
     match reply {
         StepReply::Sem(_, SemReply::Ready, _) => Mark::Ready,
@@ -315,12 +317,18 @@ fn watched_from(n: usize, made: &Step, events: &[Event], marks: &[Mark]) -> Opti
     watched_from(n + 1, made, events, marks)
 }
 
-/// The place of the event that a step is for.
-fn event_of(events: &[Event], alarm: Alarm, marks: &[Mark], made: &Step) -> Option<usize>
-    requires { length events.now ≤ MOST_EVENTS }
+/// The place of the event that a step is for, by the first event that is to be asked.
+fn event_of(
+    unasked: Option<usize>,
+    events: &[Event],
+    alarm: Alarm,
+    marks: &[Mark],
+    made: &Step,
+) -> Option<usize>
+    requires few { length events.now ≤ MOST_EVENTS }
+    requires first { unasked ≡ unasked_from 0 events.now marks.now }
     ensures { result ≡ event_of events.now alarm marks.now made.now }
 {
-    let unasked = unasked_from(0, events, marks);
     if unasked.is_some() {
         return unasked;
     }
@@ -328,17 +336,6 @@ fn event_of(events: &[Event], alarm: Alarm, marks: &[Mark], made: &Step) -> Opti
         return first_armed(marks);
     }
     watched_from(0, made, events, marks)
-}
-
-/// Sets the mark at a place.
-fn mark_at(marks: &mut [Mark; MOST_EVENTS], place: Option<usize>, mark: Mark)
-    ensures { marks.new ≡ marked marks.old place mark }
-{
-    if let Some(place) = place {
-        if place < MOST_EVENTS {
-            marks[place] = mark;
-        }
-    }
 }
 
 fn alarm_after(alarm: Alarm, reply: &StepReply) -> Alarm
@@ -378,97 +375,129 @@ fn poll_answer(marks: &[Mark]) -> Answer
     Answer::Ready(positions)
 }
 
-/// Whether a poll has its answer.
-fn is_answered(timeout: Timeout, events: &[Event], alarm: Alarm, marks: &[Mark]) -> bool
-    requires { length events.now ≤ MOST_EVENTS }
-    ensures { result ≡ is_answered timeout events.now alarm marks.now }
+/// Whether a poll that asks no more has its answer.
+fn is_over(timeout: Timeout, alarm: Alarm, marks: &[Mark]) -> bool
+    ensures { (events : List Event) → asks_more events marks.now ≡ false →
+        result ≡ is_answered timeout events alarm marks.now }
 {
-    !asks_more(events, marks)
-        && ((is_closing(alarm, marks) || !waits(timeout)) && !any_armed(marks))
+    (is_closing(alarm, marks) || !waits(timeout)) && !any_armed(marks)
 }
 
-fn poll_goes(
-    word: Word,
-    timeout: Timeout,
-    events: &[Event],
-    alarm: Alarm,
-    marks: &[Mark; MOST_EVENTS],
-    progress: &mut Progress,
-)
-    requires { length events.now ≤ MOST_EVENTS }
-    ensures { progress.new ≡ poll_goes word timeout events.now alarm marks.now }
+/// Whether a poll asks more once the event that its step is for has its mark, by the first event that is to be asked.
+// Before that one all are asked, so it looks behind it alone.
+#[tactic(auto, using(crate::proofs::PollSteps::unasked_within))]
+fn asks_on(unasked: Option<usize>, events: &[Event], marks: &[Mark; MOST_EVENTS]) -> bool
+    requires few { length events.now ≤ MOST_EVENTS }
+    requires first { unasked ≡ unasked_from 0 events.now marks.now }
+    ensures { (alarm : Alarm) (made : Step) (mark : Mark) → is_unasked mark ≡ false →
+        result ≡ asks_more events.now (marked marks.now (event_of events.now alarm marks.now made) mark) }
 {
-    if is_answered(timeout, events, alarm, marks) {
-        *progress = Progress::Answers(word, poll_answer(marks));
-    } else {
-        *progress = Progress::Goes(Stage::Polls(alarm, *marks));
+    match unasked {
+        Some(place) => unasked_from(place + 1, events, marks).is_some(),
+        None => false,
     }
 }
 
-/// Puts what the reply to a step does to a poll with this alarm and these marks.
-fn polled(
-    word: Word,
-    timeout: Timeout,
-    events: &[Event],
-    alarm: Alarm,
-    marks: [Mark; MOST_EVENTS],
-    made: &Step,
-    reply: &StepReply,
-    progress: &mut Progress,
-)
-    requires { length events.now ≤ MOST_EVENTS }
-    ensures { progress.new ≡ polled word timeout events.now alarm marks made.now reply.now }
+/// Sets a mark of a poll, if there is one at this place.
+fn put_mark(stage: &mut Stage, place: Option<usize>, mark: Mark)
+    ensures { (alarm : Alarm) (marks : List Mark) → stage.old ≡ Stage.Polls alarm marks →
+        stage.new ≡ Stage.Polls alarm (marked marks place mark) }
 {
-    let mut marks = marks;
-    let place = event_of(events, alarm, &marks, made);
-    mark_at(&mut marks, place, mark_of(reply));
-    poll_goes(
-        word,
-        timeout,
-        events,
-        alarm_after(alarm, reply),
-        &marks,
-        progress,
-    );
+    let Some(place) = place else {
+        return;
+    };
+    if let Stage::Polls(_, marks) = stage {
+        if place < MOST_EVENTS {
+            marks[place] = mark;
+        }
+    }
 }
 
-/// Puts what the reply to a step does to a poll.
-#[tactic(auto, using(crate::proofs::PollSteps::few_events))]
-pub fn poll_progress(
-    word: Word,
+/// Sets the alarm of a poll.
+fn put_alarm(stage: &mut Stage, alarm: Alarm)
+    ensures { (before : Alarm) (marks : List Mark) → stage.old ≡ Stage.Polls before marks →
+        stage.new ≡ Stage.Polls alarm marks }
+{
+    if let Stage::Polls(now, _) = stage {
+        *now = alarm;
+    }
+}
+
+/// A poll that asks no more has its answer, or goes on.
+fn close_poll(timeout: Timeout, step: u32, stage: &mut Stage, answers: &mut AnswerRows) -> Moved
+    requires room { length answers.old.items < answers.old.room }
+    ensures done { (events : List Event) (alarm : Alarm) (marks : List Mark) → stage.old ≡ Stage.Polls alarm marks →
+        asks_more events marks ≡ false → IsDone step (poll_goes Word.Poll timeout events alarm marks)
+        result stage.new answers.old.items answers.new.items }
+    ensures capacity { answers.old.room ≤ answers.new.room }
+{
+    let Stage::Polls(alarm, marks) = &*stage else {
+        return Moved::Goes;
+    };
+    if !is_over(timeout, *alarm, &marks[..]) {
+        return Moved::Goes;
+    }
+    let answer = poll_answer(&marks[..]);
+    answer_call(Word::Poll, answer, step, stage, answers)
+}
+
+/// Does what the reply to a step does to a poll that has begun.
+fn poll_further(
     timeout: Timeout,
-    events: &Events,
-    stage: &Stage,
+    events: &[Event],
     made: &Step,
     reply: &StepReply,
-    progress: &mut Progress,
-)
-    ensures { progress.new ≡ poll_progress word timeout events.now stage.now made.now reply.now }
+    step: u32,
+    stage: &mut Stage,
+    answers: &mut AnswerRows,
+) -> Moved
+    requires few { length events.now ≤ MOST_EVENTS }
+    requires room { length answers.old.items < answers.old.room }
+    ensures done { IsDone step (poll_further Word.Poll timeout events.now stage.old made.now reply.now)
+        result stage.new answers.old.items answers.new.items }
+    ensures capacity { answers.old.room ≤ answers.new.room }
+{
+    let Stage::Polls(alarm, marks) = &*stage else {
+        return Moved::Goes;
+    };
+    let unasked = unasked_from(0, events, marks);
+    let place = event_of(unasked, events, *alarm, &marks[..], made);
+    let asks = asks_on(unasked, events, marks);
+    let alarm = alarm_after(*alarm, reply);
+    put_mark(stage, place, mark_of(reply));
+    put_alarm(stage, alarm);
+    if asks {
+        return Moved::Goes;
+    }
+    close_poll(timeout, step, stage, answers)
+}
+
+/// Does what the reply to a step does to a poll.
+#[tactic(auto, using(crate::proofs::PollSteps::few_events))]
+pub fn poll_goes_on(
+    timeout: Timeout,
+    events: &Events,
+    made: &Step,
+    reply: &StepReply,
+    step: u32,
+    stage: &mut Stage,
+    answers: &mut AnswerRows,
+) -> Moved
+    requires { length answers.old.items < answers.old.room }
+    ensures done { IsDone step (poll_progress Word.Poll timeout events.now stage.old made.now reply.now)
+        result stage.new answers.old.items answers.new.items }
+    ensures capacity { answers.old.room ≤ answers.new.room }
 {
     let events = events.items();
-    match (stage, reply) {
+    match (&*stage, reply) {
         (Stage::Start, StepReply::Clock(ClockReply::At(moment), _)) => {
-            *progress = Progress::Goes(Stage::Polls(
-                Alarm::Due(*moment),
-                [Mark::Unasked; MOST_EVENTS],
-            ));
+            *stage = Stage::Polls(Alarm::Due(*moment), [Mark::Unasked; MOST_EVENTS]);
+            Moved::Goes
         }
         (Stage::Start, _) => {
-            let marks = [Mark::Unasked; MOST_EVENTS];
-            polled(
-                word,
-                timeout,
-                events,
-                Alarm::Unset,
-                marks,
-                made,
-                reply,
-                progress,
-            )
+            *stage = Stage::Polls(Alarm::Unset, [Mark::Unasked; MOST_EVENTS]);
+            poll_further(timeout, events, made, reply, step, stage, answers)
         }
-        (Stage::Polls(alarm, marks), _) => {
-            polled(word, timeout, events, *alarm, *marks, made, reply, progress)
-        }
-        _ => *progress = Progress::Goes(*stage),
+        _ => poll_further(timeout, events, made, reply, step, stage, answers),
     }
 }

@@ -1,11 +1,12 @@
-ghost use Rattle.std.specs.Prelude.{◌≡◌, slice_get, reverse, option_copied};
+ghost use Rattle.std.specs.Prelude.{◌≡◌, ℕ, ◌<◌, ◌≤◌, List, slice_get, option_copied, length};
 ghost use Rattle.zk_line.specs.Objects.{places, is_item};
 ghost use Rattle.zk_scenario.specs.Players.{players, calls_of};
+ghost use Rattle.zk_worker.specs.Moves.{IsDone};
 ghost use Rattle.zk_worker.specs.Next.{role_call};
-ghost use Rattle.zk_worker.specs.Protocol.{worker_attempts, role_attempts, run_progress, worker_progress, role_progress, is_over, place_of, found_flags, found_seen, spot_of};
+ghost use Rattle.zk_worker.specs.Protocol.{worker_attempts, role_attempts, worker_progress, role_progress, is_over, place_of, found_flags, found_seen, spot_of};
 
-use crate::calls::{call_ahead, call_progress};
-use crate::{Frame, Progress, Role, Spot, Stage, Step, StepReply};
+use crate::calls::{call_ahead, call_goes_on};
+use crate::{AnswerRows, Answered, Frame, Moved, Role, Spot, Stage, Step, StepReply};
 use zk_base::Seen;
 use zk_model_work::{WorkOp, WorkReply};
 use zk_scenario::{Call, Scenario};
@@ -59,58 +60,48 @@ pub fn role_ahead(scenario: &Scenario, frame: &Frame, index: u32, ahead: &mut Op
     }
 }
 
-fn run_progress(owner: Option<u32>) -> Progress
-    ensures { result ≡ run_progress owner }
+/// Does what the reply to a step does to the runs of a queue: they answer no call.
+fn worker_goes_on(scenario: &Scenario, reply: &StepReply, stage: &mut Stage) -> Moved
+    ensures { (step : ℕ) (answers : List Answered) →
+        IsDone step (worker_progress scenario.now.decls stage.old reply.now) result stage.new answers answers }
 {
-    match owner {
-        Some(owner) => Progress::Enters(owner, Stage::Runs),
-        None => Progress::Goes(Stage::Runs),
-    }
-}
-
-fn worker_progress(scenario: &Scenario, stage: &Stage, reply: &StepReply) -> Progress
-    ensures { result ≡ worker_progress scenario.now.decls stage.now reply.now }
-{
-    match (stage, reply) {
+    match (&*stage, reply) {
         (Stage::Start, StepReply::Work(WorkReply::Run(item, _), _)) => {
-            run_progress(item_object(scenario, *item))
+            *stage = Stage::Runs;
+            match item_object(scenario, *item) {
+                Some(owner) => Moved::Enters(owner),
+                None => Moved::Goes,
+            }
         }
-        _ => Progress::Goes(Stage::Start),
+        _ => {
+            *stage = Stage::Start;
+            Moved::Goes
+        }
     }
 }
 
-/// The runs of a queue go on.
-// Put where it is kept, as what calls do.
-fn works_on(scenario: &Scenario, stage: &Stage, reply: &StepReply, progress: &mut Progress)
-    ensures { progress.new ≡ worker_progress scenario.now.decls stage.now reply.now }
-{
-    *progress = worker_progress(scenario, stage, reply);
-}
-
-/// A script goes on where it stands.
-fn stays(stage: &Stage, progress: &mut Progress)
-    ensures { progress.new ≡ Progress.Goes stage.now }
-{
-    *progress = Progress::Goes(*stage);
-}
-
-/// Puts what the reply to a step does to an open script or run.
-pub fn role_progress(
+/// Does what the reply to a step does to an open script or run, and puts the answer, if the step of this number gives one.
+pub fn frame_goes_on(
     scenario: &Scenario,
-    frame: &Frame,
+    frame: &mut Frame,
     made: &Step,
     reply: &StepReply,
-    progress: &mut Progress,
-)
-    ensures { progress.new ≡
-        role_progress scenario.now frame.now.role frame.now.next frame.now.stage made.now reply.now }
+    step: u32,
+    answers: &mut AnswerRows,
+) -> Moved
+    requires { length answers.old.items < answers.old.room }
+    ensures done { IsDone step
+        (role_progress scenario.now frame.old.role frame.old.next frame.old.stage made.now reply.now)
+        result frame.new.stage answers.old.items answers.new.items }
+    ensures kept { frame.new ≡ record frame.old { stage = frame.new.stage } }
+    ensures capacity { answers.old.room ≤ answers.new.room }
 {
     match frame.role {
         Role::Script(owner) => match call_at(scenario, owner, frame.next) {
-            Some(call) => call_progress(call, &frame.stage, made, reply, progress),
-            None => stays(&frame.stage, progress),
+            Some(call) => call_goes_on(call, made, reply, step, &mut frame.stage, answers),
+            None => Moved::Goes,
         },
-        Role::Worker(_) => works_on(scenario, &frame.stage, reply, progress),
+        Role::Worker(_) => worker_goes_on(scenario, reply, &mut frame.stage),
     }
 }
 

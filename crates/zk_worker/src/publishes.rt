@@ -1,9 +1,10 @@
-ghost use Rattle.std.specs.Prelude.{◌≡◌, slice_get};
+ghost use Rattle.std.specs.Prelude.{◌≡◌, ◌<◌, ◌≤◌, slice_get, length};
+ghost use Rattle.zk_worker.specs.Moves.{IsDone};
 ghost use Rattle.zk_worker.specs.Publishes.{asks_for, use_step, visit_step, channel_attempts, holds_progress, rest_of, visits_answer, visit_progress, asking_progress, channel_progress};
 
-use crate::replies::answer_of;
-use crate::waits::{wait_ahead, wait_progress};
-use crate::{Answer, Progress, Stage, Step, StepReply, Using, Waiting, Word};
+use crate::moves::{answer_by, answer_call};
+use crate::waits::{wait_ahead, wait_goes_on};
+use crate::{Answer, AnswerRows, Moved, Stage, Step, StepReply, Using, Waiting, Word};
 use zk_base::{Errno, Few};
 use zk_model_bus::{ChanOp, ChanReply, ObsOp, ObsReply};
 use zk_words::Timeout;
@@ -62,16 +63,29 @@ pub fn channel_ahead(
     }
 }
 
-/// What the first reply at the channel does to a call that holds it.
-fn holds_progress(word: Word, reply: &StepReply) -> Progress
-    ensures { result ≡ holds_progress word reply.now }
+/// Does what the first reply at the channel does to a call that holds it.
+fn hold_goes_on(
+    word: Word,
+    reply: &StepReply,
+    step: u32,
+    stage: &mut Stage,
+    answers: &mut AnswerRows,
+) -> Moved
+    requires { length answers.old.items < answers.old.room }
+    ensures done { IsDone step (holds_progress word reply.now)
+        result stage.new answers.old.items answers.new.items }
+    ensures capacity { answers.old.room ≤ answers.new.room }
 {
     match reply {
         StepReply::Chan(_, ChanReply::Observers(told), _) => {
-            Progress::Goes(Stage::Visits(*told, false))
+            *stage = Stage::Visits(*told, false);
+            Moved::Goes
         }
-        StepReply::Chan(_, ChanReply::Bytes(message), _) => Progress::Goes(Stage::Reads(*message)),
-        _ => Progress::Answers(word, answer_of(reply)),
+        StepReply::Chan(_, ChanReply::Bytes(message), _) => {
+            *stage = Stage::Reads(*message);
+            Moved::Goes
+        }
+        _ => answer_by(word, reply, step, stage, answers),
     }
 }
 
@@ -99,39 +113,84 @@ fn visits_answer(full: bool) -> Answer
     }
 }
 
-/// What the reply to a visit does to its call, or the reply to the freeing. A listener that runs has its script played before
-/// the next visit.
-fn visit_progress(word: Word, left: &Few, full: bool, reply: &StepReply) -> Progress
-    ensures { result ≡ visit_progress word left.now full reply.now }
+/// Does what the reply to a visit does to its call, or the reply to the freeing. A listener that runs has its script played
+/// before the next visit.
+fn visit_goes_on(
+    word: Word,
+    left: &Few,
+    full: bool,
+    reply: &StepReply,
+    step: u32,
+    stage: &mut Stage,
+    answers: &mut AnswerRows,
+) -> Moved
+    requires { length answers.old.items < answers.old.room }
+    ensures done { IsDone step (visit_progress word left.now full reply.now)
+        result stage.new answers.old.items answers.new.items }
+    ensures capacity { answers.old.room ≤ answers.new.room }
 {
     match reply {
         StepReply::Obs(observer, ObsReply::Run, _) => {
-            Progress::Enters(*observer, Stage::Visits(rest_of(left), full))
+            *stage = Stage::Visits(rest_of(left), full);
+            Moved::Enters(*observer)
         }
-        StepReply::Obs(_, ObsReply::Full, _) => Progress::Goes(Stage::Visits(rest_of(left), true)),
-        StepReply::Obs(_, _, _) => Progress::Goes(Stage::Visits(rest_of(left), full)),
-        _ => Progress::Answers(word, visits_answer(full)),
+        StepReply::Obs(_, ObsReply::Full, _) => {
+            *stage = Stage::Visits(rest_of(left), true);
+            Moved::Goes
+        }
+        StepReply::Obs(_, _, _) => {
+            *stage = Stage::Visits(rest_of(left), full);
+            Moved::Goes
+        }
+        _ => answer_call(word, visits_answer(full), step, stage, answers),
     }
 }
 
-/// What the reply to a step does to a call that waits for its channel. It may get it.
-fn asking_progress(word: Word, stage: &Stage, reply: &StepReply) -> Progress
-    ensures { result ≡ asking_progress word stage.now reply.now }
+/// Does what the reply to a step does to a call that waits for its channel. It may get it.
+fn asking_goes_on(
+    word: Word,
+    reply: &StepReply,
+    step: u32,
+    stage: &mut Stage,
+    answers: &mut AnswerRows,
+) -> Moved
+    requires { length answers.old.items < answers.old.room }
+    ensures done { IsDone step (asking_progress word stage.old reply.now)
+        result stage.new answers.old.items answers.new.items }
+    ensures capacity { answers.old.room ≤ answers.new.room }
 {
     match reply {
-        StepReply::Chan(_, ChanReply::Got, _) => Progress::Goes(Stage::Holds),
-        _ => wait_progress(word, stage, reply),
+        StepReply::Chan(_, ChanReply::Got, _) => {
+            *stage = Stage::Holds;
+            Moved::Goes
+        }
+        _ => wait_goes_on(word, reply, step, stage, answers),
     }
 }
 
-/// What the reply to a step does to a call that uses a channel.
-pub fn channel_progress(word: Word, stage: &Stage, reply: &StepReply) -> Progress
-    ensures { result ≡ channel_progress word stage.now reply.now }
+/// Does what the reply to a step does to a call that uses a channel.
+pub fn channel_goes_on(
+    word: Word,
+    reply: &StepReply,
+    step: u32,
+    stage: &mut Stage,
+    answers: &mut AnswerRows,
+) -> Moved
+    requires { length answers.old.items < answers.old.room }
+    ensures done { IsDone step (channel_progress word stage.old reply.now)
+        result stage.new answers.old.items answers.new.items }
+    ensures capacity { answers.old.room ≤ answers.new.room }
 {
-    match stage {
-        Stage::Holds => holds_progress(word, reply),
-        Stage::Visits(left, full) => visit_progress(word, left, *full, reply),
-        Stage::Reads(message) => Progress::Answers(word, Answer::Bytes(*message)),
-        stage => asking_progress(word, stage, reply),
+    match &*stage {
+        Stage::Holds => hold_goes_on(word, reply, step, stage, answers),
+        Stage::Visits(left, full) => {
+            let (left, full) = (*left, *full);
+            visit_goes_on(word, &left, full, reply, step, stage, answers)
+        }
+        Stage::Reads(message) => {
+            let answer = Answer::Bytes(*message);
+            answer_call(word, answer, step, stage, answers)
+        }
+        _ => asking_goes_on(word, reply, step, stage, answers),
     }
 }

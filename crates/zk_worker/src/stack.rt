@@ -5,8 +5,8 @@ ghost use Rattle.zk_worker.specs.Protocol.{frames_attempts, frames_progress, fra
 ghost use Rattle.zk_worker.specs.Stacks.{is_top_over};
 
 use crate::frames::MOST_FRAMES;
-use crate::protocol::{is_over, role_ahead, role_call, role_progress};
-use crate::{Answered, Frame, Progress, Role, Stage, Step, StepReply};
+use crate::protocol::{frame_goes_on, is_over, role_ahead, role_call};
+use crate::{AnswerRows, Frame, Moved, Role, Stage, Step, StepReply};
 use zk_base::push_within;
 use zk_scenario::{Call, Scenario};
 
@@ -62,22 +62,6 @@ pub fn frames_ahead(scenario: &Scenario, stack: &[Frame], index: u32, ahead: &mu
     }
 }
 
-/// Puts what the reply to a step does to the innermost open script or run.
-pub fn frames_progress(
-    scenario: &Scenario,
-    stack: &[Frame],
-    made: &Step,
-    reply: &StepReply,
-    progress: &mut Progress,
-)
-    ensures { progress.new ≡ frames_progress scenario.now (reverse stack.now) made.now reply.now }
-{
-    match top_frame(stack) {
-        Some(frame) => role_progress(scenario, frame, made, reply, progress),
-        None => *progress = Progress::Goes(Stage::Start),
-    }
-}
-
 fn is_top_over(scenario: &Scenario, stack: &[Frame]) -> bool
     ensures { result ≡ is_top_over scenario.now (reverse stack.now) }
 {
@@ -107,47 +91,39 @@ fn enter(stack: &mut Vec<Frame>, owner: u32)
     }
 }
 
-/// The open scripts and runs after a step.
-pub fn move_frames(scenario: &Scenario, stack: &mut Vec<Frame>, progress: &Progress)
+/// Does what the reply to a step does to the innermost open script or run, and puts the answer, if the step of this number
+/// gives one.
+pub fn stack_goes_on(
+    scenario: &Scenario,
+    stack: &mut Vec<Frame>,
+    made: &Step,
+    reply: &StepReply,
+    step: u32,
+    answers: &mut AnswerRows,
+)
     requires room { MOST_FRAMES ≤ vec_capacity stack.old }
     requires short { length stack.old.items ≤ MOST_FRAMES }
     requires nexts { All (λ frame. frame.next < MOST_STEPS) (reverse stack.old.items) }
-    ensures frames { reverse stack.new.items ≡ frames_after scenario.now (reverse stack.old.items) progress.now }
-    ensures capacity { vec_capacity stack.old ≤ vec_capacity stack.new }
+    requires for_answer { length answers.old.items < answers.old.room }
+    ensures frames { reverse stack.new.items ≡ frames_after scenario.now (reverse stack.old.items)
+        (frames_progress scenario.now (reverse stack.old.items) made.now reply.now) }
+    ensures answers { answers.new.items ≡ answers_after answers.old.items step
+        (frames_progress scenario.now (reverse stack.old.items) made.now reply.now) }
+    ensures frame_room { vec_capacity stack.old ≤ vec_capacity stack.new }
+    ensures answer_room { answers.old.room ≤ answers.new.room }
 {
     let Some(frame) = stack.last_mut() else {
         return;
     };
-    match progress {
-        Progress::Goes(stage) => frame.stage = *stage,
-        Progress::Answers(_, _) => {
+    match frame_goes_on(scenario, frame, made, reply, step, answers) {
+        Moved::Goes => {}
+        Moved::Answers => {
             frame.next += 1;
-            frame.stage = Stage::Start;
             settle(scenario, stack);
         }
-        Progress::Enters(owner, stage) => {
-            frame.stage = *stage;
-            enter(stack, *owner);
+        Moved::Enters(owner) => {
+            enter(stack, owner);
             settle(scenario, stack);
         }
-    }
-}
-
-/// The answers after the step of this number.
-pub fn put_answer(answers: &mut Vec<Answered>, number: u32, progress: &Progress)
-    requires { vec_len answers.old < vec_capacity answers.old }
-    ensures answers { answers.new.items ≡ answers_after answers.old.items number progress.now }
-    ensures capacity { vec_capacity answers.old ≤ vec_capacity answers.new }
-{
-    match progress {
-        Progress::Answers(word, answer) => push_within(
-            answers,
-            Answered {
-                step: number,
-                word: *word,
-                answer: *answer,
-            },
-        ),
-        _ => {}
     }
 }

@@ -1,8 +1,9 @@
-ghost use Rattle.std.specs.Prelude.{◌≡◌, slice_get};
+ghost use Rattle.std.specs.Prelude.{◌≡◌, ◌<◌, ◌≤◌, slice_get, length};
+ghost use Rattle.zk_worker.specs.Moves.{IsDone, opens_at};
 ghost use Rattle.zk_worker.specs.Waits.{open_step, end_step, quit_step, first_step, wait_attempts, opening_progress, with_alarm, wait_progress};
 
-use crate::replies::answer_of;
-use crate::{Progress, Stage, Step, StepReply, Waiting, Word};
+use crate::moves::answer_by;
+use crate::{AnswerRows, Moved, Stage, Step, StepReply, Waiting, Word};
 use zk_model_bus::{ChanOp, ChanReply, ObsOp, ObsReply};
 use zk_model_wait::{ClockOp, ClockReply, MsgqOp, MsgqReply, SemOp, SemReply};
 use zk_model_work::WorkReply;
@@ -85,44 +86,94 @@ pub fn wait_ahead(
     };
 }
 
-/// What the reply to the step that may begin a wait does to its call.
-pub fn opening_progress(word: Word, reply: &StepReply) -> Progress
-    ensures { result ≡ opening_progress word reply.now }
+/// The place of the entry since which a call waits, where this reply to its first step says that it does.
+fn waits_since(reply: &StepReply) -> Option<u64>
+    ensures { (word : Word) → opening_progress word reply.now ≡ opens_at Stage.Waits word reply.now result }
 {
     match reply {
-        StepReply::Work(WorkReply::Wait, place) => Progress::Goes(Stage::Waits(*place)),
-        StepReply::Work(WorkReply::WaitFor(_), place) => Progress::Goes(Stage::Waits(*place)),
-        StepReply::Sem(_, SemReply::Wait, place) => Progress::Goes(Stage::Waits(*place)),
-        StepReply::Msgq(_, MsgqReply::Wait, place) => Progress::Goes(Stage::Waits(*place)),
-        StepReply::Chan(_, ChanReply::Wait, place) => Progress::Goes(Stage::Waits(*place)),
-        StepReply::Obs(_, ObsReply::Wait, place) => Progress::Goes(Stage::Waits(*place)),
-        _ => Progress::Answers(word, answer_of(reply)),
+        StepReply::Work(WorkReply::Wait, place) => Some(*place),
+        StepReply::Work(WorkReply::WaitFor(_), place) => Some(*place),
+        StepReply::Sem(_, SemReply::Wait, place) => Some(*place),
+        StepReply::Msgq(_, MsgqReply::Wait, place) => Some(*place),
+        StepReply::Chan(_, ChanReply::Wait, place) => Some(*place),
+        StepReply::Obs(_, ObsReply::Wait, place) => Some(*place),
+        _ => None,
     }
 }
 
-/// A call that has set an alarm and waits, waits until the moment of its alarm.
-fn with_alarm(moment: u64, progress: Progress) -> Progress
-    ensures { result ≡ with_alarm moment progress }
+/// Does what the reply to the step that may begin a wait does to its call.
+pub fn open_wait(
+    word: Word,
+    reply: &StepReply,
+    step: u32,
+    stage: &mut Stage,
+    answers: &mut AnswerRows,
+) -> Moved
+    requires { length answers.old.items < answers.old.room }
+    ensures done { IsDone step (opening_progress word reply.now)
+        result stage.new answers.old.items answers.new.items }
+    ensures capacity { answers.old.room ≤ answers.new.room }
 {
-    match progress {
-        Progress::Goes(Stage::Waits(place)) => Progress::Goes(Stage::WaitsUntil(place, moment)),
-        progress => progress,
+    match waits_since(reply) {
+        Some(place) => {
+            *stage = Stage::Waits(place);
+            Moved::Goes
+        }
+        None => answer_by(word, reply, step, stage, answers),
     }
 }
 
-/// What the reply to a step does to a call that may wait.
-pub fn wait_progress(word: Word, stage: &Stage, reply: &StepReply) -> Progress
-    ensures { result ≡ wait_progress word stage.now reply.now }
+/// The same for a call that has set an alarm for this moment: where it waits, it waits until then.
+fn open_wait_until(
+    moment: u64,
+    word: Word,
+    reply: &StepReply,
+    step: u32,
+    stage: &mut Stage,
+    answers: &mut AnswerRows,
+) -> Moved
+    requires { length answers.old.items < answers.old.room }
+    ensures done { IsDone step (with_alarm moment (opening_progress word reply.now))
+        result stage.new answers.old.items answers.new.items }
+    ensures capacity { answers.old.room ≤ answers.new.room }
 {
-    match (stage, reply) {
+    match waits_since(reply) {
+        Some(place) => {
+            *stage = Stage::WaitsUntil(place, moment);
+            Moved::Goes
+        }
+        None => answer_by(word, reply, step, stage, answers),
+    }
+}
+
+/// Does what the reply to a step does to a call that may wait.
+pub fn wait_goes_on(
+    word: Word,
+    reply: &StepReply,
+    step: u32,
+    stage: &mut Stage,
+    answers: &mut AnswerRows,
+) -> Moved
+    requires { length answers.old.items < answers.old.room }
+    ensures done { IsDone step (wait_progress word stage.old reply.now)
+        result stage.new answers.old.items answers.new.items }
+    ensures capacity { answers.old.room ≤ answers.new.room }
+{
+    match (&*stage, reply) {
         (Stage::Start, StepReply::Clock(ClockReply::At(moment), _)) => {
-            Progress::Goes(Stage::Alarmed(*moment))
+            *stage = Stage::Alarmed(*moment);
+            Moved::Goes
         }
-        (Stage::Start, _) => opening_progress(word, reply),
-        (Stage::Alarmed(moment), _) => with_alarm(*moment, opening_progress(word, reply)),
+        (Stage::Start, _) => open_wait(word, reply, step, stage, answers),
+        (Stage::Alarmed(moment), _) => {
+            let moment = *moment;
+            open_wait_until(moment, word, reply, step, stage, answers)
+        }
         (Stage::WaitsUntil(place, _), StepReply::Clock(_, _)) => {
-            Progress::Goes(Stage::Quits(*place))
+            let place = *place;
+            *stage = Stage::Quits(place);
+            Moved::Goes
         }
-        _ => Progress::Answers(word, answer_of(reply)),
+        _ => answer_by(word, reply, step, stage, answers),
     }
 }

@@ -4,13 +4,12 @@ use Rattle.zk_base.specs.declared.ids.Who.{Who}
 use Rattle.zk_worker.specs.Protocol.{attempts}
 use Rattle.zk_worker.specs.Shown.{IsLater}
 use Rattle.zk_worker.proofs.Between.{between-none, between-both, log-still, log-later}
-use Rattle.zk_worker.proofs.Trying.{attempted-some, attempted-none, attempted-err, tried-next, first-made, none-left, none-behind, none-made}
+use Rattle.zk_worker.proofs.Trying.{attempted-some, attempted-none, attempted-err, tried-next, first-made, none-left, none-behind, tried-with}
 use Rattle.zk_worker.proofs.Limits.{attempts-few}
 use Rattle.zk_worker.proofs.playing.try_ahead.Goals as goal
 
 pub loop-index-init : goal.loop-index-init
 loop-index-init g c = record {
-  none = c.requires.none;
   machines = refl;
   serves = λ who. (λ served. served, λ served. served);
   alone = refl;
@@ -35,8 +34,9 @@ returns-in-Some-2-clause-tried g c =
     let ahead = attempts c.args.scenario.now c.args.player.now in
     let made = attempted-some _ _ _ _ _ _ _ _ c.in-Some.step _ _ _ c.in-Some-2.reply was.alone was.machines c.who.ensures c.steps.ensures.count
     c.in_ok-reply.ensures.attempted c.in-Some-2.is in
-    first-made _ _ _ _ ahead c.loop-index.index _ _ _ _ _ _ _ _ was.tried (sym c.put_ahead.ensures ∙ c.in-Some.is)
-    was.others made c.attempt.ensures.counts
+    tried-with _ _ _ _ ahead _ _ _ _ _ c.in-Some.step c.in-Some-2.reply c.in-Some.is
+    (first-made _ _ _ _ ahead c.loop-index.index _ _ _ _ _ _ _ _ was.tried (sym c.put_ahead.ensures ∙ c.in-Some.is)
+    was.others made c.attempt.ensures.counts)
 
 pub returns-in_err-reply-clause-err : goal.returns-in_err-reply-clause-err
 returns-in_err-reply-clause-err g c =
@@ -55,7 +55,6 @@ loop-index-preserved g c =
     let none = attempted-none _ _ _ _ _ _ _ _ c.in-Some.step _ _ _ was.alone was.machines c.who.ensures c.steps.ensures.count
     c.in_ok-reply.ensures.attempted c.in_default-2.is in
     record {
-      none = was.none;
       machines = c.attempt.ensures.machines ∙ was.machines;
       serves = λ who. (λ served. (c.attempt.ensures.serves who).0 ((was.serves who).0 served), λ served. (was.serves who).1 ((c.attempt.ensures.serves who).1 served));
       alone = c.attempt.ensures.alone ∙ was.alone;
@@ -70,13 +69,11 @@ pub returns-in_default-clause-tried : goal.returns-in_default-clause-tried
 returns-in_default-clause-tried g c =
     let was = c.loop-index.invariant in
     let ahead = attempts c.args.scenario.now c.args.player.now in
-    none-made _ _ _ (length c.args.player.now.spots) _ _ _ _ _ _ was.none
-    (none-behind _ _ _ _ c.loop-index.index _ _ _ _ was.tried (sym c.put_ahead.ensures ∙ c.in_default.is) was.others)
+    none-behind _ _ _ ahead c.loop-index.index _ _ _ _ was.tried (sym c.put_ahead.ensures ∙ c.in_default.is) was.others
 
 pub returns-clause-tried : goal.returns-clause-tried
 returns-clause-tried g c =
     let was = c.loop-index.invariant in
     let few = attempts-few c.args.scenario.now c.args.player.now in
     let end = c.loop-index.auto.index-end in
-    none-made _ _ _ (length c.args.player.now.spots) _ _ _ _ _ _ was.none
-    (none-left _ _ _ _ c.loop-index.index _ _ _ _ was.tried (omega (arith, few, end)) was.others)
+    none-left _ _ _ _ c.loop-index.index _ _ _ _ was.tried (omega (arith, few, end)) was.others

@@ -1,4 +1,4 @@
-use Rattle.std.proofs.Common.{◌≡◌, ◌≤◌, None}
+use Rattle.std.proofs.Common.{◌≡◌, ◌≤◌}
 use Rattle.zk_worker.specs.declared.steps.Step.{Step}
 use Rattle.zk_worker.specs.Protocol.{attempts}
 use Rattle.zk_worker.specs.Shown.{OnlyOthersCame}
@@ -12,7 +12,6 @@ invariant-loop-index g l =
     let lone = g.V.Services.alone first in
     let m = g.V.Services.machines first in
     record {
-      none : l.made ≡ None;
       machines : g.V.Services.machines l.services ≡ m;
       serves : SamePlayers (g.V.Services.serves first) (g.V.Services.serves l.services);
       alone : g.V.Services.alone l.services ≡ lone;

@@ -13,12 +13,14 @@ invariant_of-self c =
     let was = c.self.inside in
     let spots = ap (λ v. length v.spots) c.self.view_is in
     let fewer : length was.spots.items < MOST_STEPS = omega (arith, spots, c.requires) in
-    IsRoomy-moved c.args.scenario.now (reverse was.stack.items) (reverse c.move_frames.new.stack.items) was.answers.items c.put_answer.new.answers.items
-    was.spots.items c.push_within.new.items.items c.spot_of.result c.len-number.result c.frames_progress.new.progress was.passed
-    (vec_capacity was.stack) (vec_capacity was.answers) (vec_capacity was.spots)
-    (vec_capacity c.move_frames.new.stack) (vec_capacity c.put_answer.new.answers) (vec_capacity c.push_within.new.items)
-    c.self.invariant fewer c.move_frames.ensures.frames c.put_answer.ensures.answers c.push_within.ensures.items
-    c.move_frames.ensures.capacity c.put_answer.ensures.capacity c.push_within.ensures.capacity
+    let s : Content = c.args.scenario.now in
+    IsRoomy-moved s (reverse was.stack.items) (reverse c.stack_goes_on.new.stack.items) was.answers.items c.stack_goes_on.new.answers.items
+    was.spots.items c.push_within.new.items.items c.spot_of.result c.len-number.result
+    (frames_progress s (reverse was.stack.items) c.args.step.now c.args.reply.now) was.passed
+    (vec_capacity was.stack) was.answers.room (vec_capacity was.spots)
+    (vec_capacity c.stack_goes_on.new.stack) c.stack_goes_on.new.answers.room (vec_capacity c.push_within.new.items)
+    c.self.invariant fewer c.stack_goes_on.ensures.frames c.stack_goes_on.ensures.answers c.push_within.ensures.items
+    c.stack_goes_on.ensures.frame_room c.stack_goes_on.ensures.answer_room c.push_within.ensures.capacity
 
 pub returns : goal.returns
 returns c =
@@ -27,6 +29,6 @@ returns c =
     let progress = frames_progress s at.frames c.args.step.now c.args.reply.now in
     let spot = spot_of c.args.step.now c.args.reply.now in
     At-same c.self.inside.who at.who c.mode_after-self-inside.result (mode_after at.mode c.args.step.now) 0
-    (reverse c.move_frames.new.stack.items) (frames_after s at.frames progress) c.put_answer.new.answers.items (answers_after at.answers (length at.spots) progress)
+    (reverse c.stack_goes_on.new.stack.items) (frames_after s at.frames progress) c.stack_goes_on.new.answers.items (answers_after at.answers (length at.spots) progress)
     c.push_within.new.items.items (at.spots ++ spot ∷ [])
     (search rules) (search rules) (search rules) (search rules) (search rules)

@@ -1,0 +1,12 @@
+use Rattle.std.proofs.Common.{◌≡◌, None, length}
+use Rattle.zk_blocks.specs.Rows.{rows_of, put_rows}
+use Rattle.zk_trace.specs.AnswerRead.{answered_of}
+use Rattle.zk_trace.proofs.players_read.read_answers.Given as goal
+
+abbrev pub invariant-loop-answers : goal.invariant-loop-answers
+invariant-loop-answers l =
+    let says = λ last. answered_of l.scenario.decls in
+    rows_of says None l.fn.feed ≡ put_rows l.answers (rows_of says None l.feed)
+
+abbrev pub decreases-loop-answers : goal.decreases-loop-answers
+decreases-loop-answers l = length l.feed
