@@ -101,13 +101,13 @@ fn step_at(trace: &Trace, spot: Spot) -> Option<(Step, Told)> {
 /// The line of the first answer that isn't the player's, else the player's own, where it has more or stands otherwise.
 fn wrong_answer(scenario: &Scenario, player: &Player, log: &Log, head: u32) -> Option<u32> {
     let mut line = head;
-    for (place, answer) in log.answers.items().iter().enumerate() {
+    for place in 0..log.answers.len() {
         line = line.saturating_add(1);
-        if player.answers.get(place) != Some(answer) {
+        if player.answers.get(place) != log.answers.get(place) {
             return Some(line);
         }
     }
-    let all = player.answers.len() == log.answers.items().len();
+    let all = player.answers.len() == log.answers.len();
     if all && player.state(scenario) == log.state {
         None
     } else {
@@ -123,7 +123,7 @@ pub fn heads_of(alloc: Global, trace: &Trace, first: u32) -> Result<Vec<u32>, No
         heads.push(line)?;
         line = line
             .saturating_add(1)
-            .saturating_add(count_of(log.answers.items().len()));
+            .saturating_add(count_of(log.answers.len()));
     }
     Ok(heads)
 }

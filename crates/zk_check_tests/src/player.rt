@@ -7,7 +7,7 @@ use zk_base::{Entry, NoMemory, Who};
 use zk_model_work::{WorkOp, WorkReply};
 use zk_scenario::{Call, Scenario, word_of};
 use zk_trace::Ending;
-use zk_worker::{Answer, Answered, PlayerState, Step};
+use zk_worker::{Answer, Answered, Answers, PlayerState, Step};
 
 /// Where a player stands.
 #[derive(Drop)]
@@ -16,7 +16,7 @@ pub struct Player {
     /// The number of its next step.
     pub step: u32,
     /// The calls that were answered.
-    pub answers: Vec<Answered>,
+    pub answers: Answers,
     /// The queue whose worker it is.
     queue: Option<u32>,
     /// Whose script it plays: a thread its own, a worker that of the item that it runs.
@@ -68,7 +68,7 @@ impl Player {
         Some(Player {
             who,
             step: 0,
-            answers: Vec::new(alloc),
+            answers: Answers::new(alloc),
             queue,
             script,
             next: 0,
@@ -114,7 +114,7 @@ impl Player {
 
     fn answer(&mut self, step: u32, call: Call, answer: Answer) -> Result<(), NoMemory> {
         let word = word_of(&call);
-        self.answers.push(Answered { step, word, answer })?;
+        self.answers.push(&Answered { step, word, answer })?;
         self.next = self.next.saturating_add(1);
         self.stage = Stage::Fresh;
         Ok(())

@@ -335,7 +335,7 @@ fn logs_of(
         logs.push(Log {
             state,
             steps: Listed::new(alloc),
-            answers: Listed::from_vec(player.answers),
+            answers: player.answers,
         })?;
     }
     Ok(logs)
