@@ -26,10 +26,20 @@ pub fn draw(seed: &mut u32, bound: u32) -> u32
 
 /// Twenty histories, each drawn by a seed of its own.
 pub fn draw_histories<T: Twin, R: Abort>(rt: &R, alloc: Global) -> Result<(), Fail> {
-    for history in 0..20 {
+    draw_many::<T, R>(rt, alloc, 20, 200)
+}
+
+/// So many histories of so many steps, each drawn by a seed of its own.
+pub fn draw_many<T: Twin, R: Abort>(
+    rt: &R,
+    alloc: Global,
+    histories: u32,
+    steps: u32,
+) -> Result<(), Fail> {
+    for history in 0..histories {
         let mut seed = history;
         let mut twin = T::new(alloc)?;
-        for _ in 0..200 {
+        for _ in 0..steps {
             twin.step(rt, &mut seed)?;
         }
     }

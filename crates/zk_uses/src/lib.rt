@@ -23,6 +23,8 @@ mod often;
 #[cfg(test)]
 mod queue_tests;
 #[cfg(test)]
+mod ring_tests;
+#[cfg(test)]
 mod room_tests;
 #[cfg(test)]
 mod sem_row_tests;

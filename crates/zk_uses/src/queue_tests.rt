@@ -2,7 +2,7 @@
 ghost use Rattle.std.specs.Prelude.{◌≡◌, ℕ, ◌<◌, vec_len};
 ghost use Rattle.zk_queue.specs.Open.{IsAbove};
 
-use crate::draws::{Twin, draw, draw_histories};
+use crate::draws::{Twin, draw, draw_many};
 use bitflags::Flags;
 use std::alloc::Global;
 use std::process::Abort;
@@ -145,5 +145,5 @@ impl Twin for Beside {
 
 #[test]
 fn random_histories(rt: HostRuntime) -> Result<(), Fail> {
-    draw_histories::<Beside, HostRuntime>(&rt, rt.alloc())
+    draw_many::<Beside, HostRuntime>(&rt, rt.alloc(), 10_000, 40)
 }

@@ -83,6 +83,23 @@ const BUSY_FLAGS: [(Row, [u32; 3]); 7] = [
     ((1, End(0), "Some(Done)"), [0, 0, 0]),
 ];
 
+/// Which items each attempt touches: none where no entry is made.
+const TOUCHED: [(Row, &str); 6] = [
+    ((0, Submit(0, Some(0)), "Some(Sub(Fresh(0, 0)))"), "[0]"),
+    ((0, Begin(0), "None"), "[]"),
+    ((1, Begin(0), "Some(Run(0, 0))"), "[0]"),
+    ((0, Reschedule(1, 0, 2), "Some(Armed)"), "[1]"),
+    (
+        (
+            0,
+            Announce(2),
+            "Some(Now(2, Listed { items: [Expiry { item: 1, submitted: Fresh(1, 0) }] }))",
+        ),
+        "[1]",
+    ),
+    ((0, Remaining(1), "Some(Number(0))"), "[]"),
+];
+
 /// Whether the operation is one of these tests, and its item and its queue are below 2.
 fn names_what_is_there(op: WorkOp) -> bool
     ensures { result ≡ true → is_among 2 2 op ≡ true }
@@ -211,4 +228,22 @@ fn busy_flags_are_published(rt: HostRuntime) -> Result<(), Fail> {
     let published = publishes(&rt, rt.alloc(), &mut tried);
     assert_eq!(&rt; tried.last_count(), BUSY_FLAGS.len());
     published
+}
+
+/// Makes the attempts one after another, and looks at what each has touched.
+fn touches<R: Abort>(rt: &R, alloc: Global, tried: &mut Tried) -> Result<(), Fail> {
+    for (row, touched) in TOUCHED.as_slice() {
+        tried.told(rt, alloc, row)?;
+        let text = format!(in alloc; "{:?}", tried.work.touched())?;
+        assert_eq!(rt; text.as_str(), *touched);
+    }
+    Ok(())
+}
+
+#[test]
+fn what_is_touched_is_told(rt: HostRuntime) -> Result<(), Fail> {
+    let mut tried = Tried::new(rt.alloc())?;
+    let told = touches(&rt, rt.alloc(), &mut tried);
+    assert_eq!(&rt; tried.last_count(), 5);
+    told
 }

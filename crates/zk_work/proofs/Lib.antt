@@ -11,6 +11,7 @@ mod Delaying
 mod Fresh
 mod Items
 mod LastQueues
+mod Marked
 mod Numbers
 pub mod Owed
 mod Replies
