@@ -8,6 +8,7 @@ mod Beside
 mod Cancelling
 mod Changes
 mod Delaying
+mod Due
 mod Fresh
 mod Items
 mod LastQueues

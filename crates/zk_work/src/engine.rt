@@ -456,6 +456,7 @@ impl WorkEngine {
         ensures next { self.new.state
             ≡ record self.old.state { time = time; entries = self.old.state.entries + 1 } }
         ensures room { self.new.room ≡ self.old.room }
+        ensures touched { self.new.touched ≡ self.old.touched }
     {
         self.time = time;
         self.entries += 1;

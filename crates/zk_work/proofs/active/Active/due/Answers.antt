@@ -10,13 +10,13 @@ use Rattle.zk_work.proofs.active.Active.due.Goals as goal
 pub invariant_of-self : goal.invariant_of-self
 invariant_of-self c =
     let t = c.self.inside.timeouts in
-    let none = no-pair (due_first c.args.now t.live) (sym c.due.ensures.reply ∙ c.in_err-due.was) in
+    let none = no-pair (due_first c.args.now t.live) (sym c.due.ensures.reply ∙ c.in_err-item.was) in
     subst (AreMarked c.self.inside.admissions) (sym (c.due.ensures.next ∙ due-none t c.args.now none)) c.self.invariant
 
 pub flags-word-requires : goal.flags-word-requires
 flags-word-requires c =
     let t = c.self.inside.timeouts in
-    let found = due-found (due_first c.args.now t.live) c.in_ok-due.field-0 (sym c.due.ensures.reply ∙ c.in_ok-due.was) in
+    let found = due-found (due_first c.args.now t.live) (c.in_ok-item.item, c.in_ok-item.queue) (sym c.due.ensures.reply ∙ c.in_ok-item.was) in
     let ordered = subst IsOrdered (sym (ap (λ (v : ActiveView). v.timeouts) c.self.view_is)) c.requires in
     let within = due-within c.self.inside.admissions t c.args.now found.0 c.self.invariant ordered found.1 in
     let same = found.2 in
@@ -25,7 +25,7 @@ flags-word-requires c =
 pub mark-requires : goal.mark-requires
 mark-requires c =
     let t = c.self.inside.timeouts in
-    let found = due-found (due_first c.args.now t.live) c.in_ok-due.field-0 (sym c.due.ensures.reply ∙ c.in_ok-due.was) in
+    let found = due-found (due_first c.args.now t.live) (c.in_ok-item.item, c.in_ok-item.queue) (sym c.due.ensures.reply ∙ c.in_ok-item.was) in
     let ordered = subst IsOrdered (sym (ap (λ (v : ActiveView). v.timeouts) c.self.view_is)) c.requires in
     let within = due-within c.self.inside.admissions t c.args.now found.0 c.self.invariant ordered found.1 in
     let same = found.2 in
@@ -34,7 +34,7 @@ mark-requires c =
 pub invariant_of-self-2 : goal.invariant_of-self-2
 invariant_of-self-2 c =
     let t = c.self.inside.timeouts in
-    let found = due-found (due_first c.args.now t.live) c.in_ok-due.field-0 (sym c.due.ensures.reply ∙ c.in_ok-due.was) in
+    let found = due-found (due_first c.args.now t.live) (c.in_ok-item.item, c.in_ok-item.queue) (sym c.due.ensures.reply ∙ c.in_ok-item.was) in
     let ordered = subst IsOrdered (sym (ap (λ (v : ActiveView). v.timeouts) c.self.view_is)) c.requires in
     let word = c.difference.ensures tt ∙ ap (λ n. bit_and n (2 ^ 8 - 1 - 8)) (c.flags-word.ensures
     ∙ ap (λ i. flags c.self.inside.admissions i) (sym found.2)) in
@@ -46,13 +46,13 @@ invariant_of-self-2 c =
 pub returns-clause-admissions : goal.returns-clause-admissions
 returns-clause-admissions c =
     let word = c.difference.ensures tt ∙ ap (λ n. bit_and n (2 ^ 8 - 1 - 8)) c.flags-word.ensures in
-    ap undelayed c.mark.ensures ∙ disarmed-undelayed c.self.inside.admissions c.in_ok-due.field-0.0 c.difference.result.0 word
+    ap undelayed c.mark.ensures ∙ disarmed-undelayed c.self.inside.admissions c.in_ok-item.item c.difference.result.0 word
     ∙ ap (λ (v : ActiveView). v.admissions) c.self.view_is
 
 pub returns-clause-known : goal.returns-clause-known
 returns-clause-known c =
     let t = c.self.inside.timeouts in
-    let found = due-found (due_first c.args.now t.live) c.in_ok-due.field-0 (sym c.due.ensures.reply ∙ c.in_ok-due.was) in
+    let found = due-found (due_first c.args.now t.live) (c.in_ok-item.item, c.in_ok-item.queue) (sym c.due.ensures.reply ∙ c.in_ok-item.was) in
     let ordered = subst IsOrdered (sym (ap (λ (v : ActiveView). v.timeouts) c.self.view_is)) c.requires in
     let within = due-within c.self.inside.admissions t c.args.now found.0 c.self.invariant ordered found.1 in
     let same = found.2 in

@@ -10,9 +10,9 @@ use Rattle.zk_work.proofs.active.Active.end.Goals as goal
 pub flags-word-requires : goal.flags-word-requires
 flags-word-requires c =
     let o = c.self.inside.admissions in
-    let runs = run-found (run o c.args.queue) c.in_ok-end.field-0 (sym c.end.ensures.reply ∙ c.in_ok-end.was) in
+    let runs = run-found (run o c.args.queue) (c.in_ok-item.item, c.in_ok-item.number) (sym c.end.ensures.reply ∙ c.in_ok-item.was) in
     let runs_it = sym (ap (λ (v : ActiveView). run v.admissions c.args.queue) c.self.view_is) ∙ runs in
-    let known : c.in_ok-end.field-0.0 < c.args.self.now.admissions.items =
+    let known : c.in_ok-item.item < c.args.self.now.admissions.items =
     subst (λ (r : Option Ticket). IfSome r (λ t. t.item < c.args.self.now.admissions.items)) runs_it c.requires.known in
     let items = ap (λ (v : ActiveView). v.admissions.items) c.self.view_is in
     let after = ap (λ (o : Open). o.items) c.end.ensures.next in
@@ -21,25 +21,25 @@ flags-word-requires c =
 pub invariant_of-self : goal.invariant_of-self
 invariant_of-self c =
     let o = c.self.inside.admissions in
-    let runs = run-found (run o c.args.queue) c.in_ok-end.field-0 (sym c.end.ensures.reply ∙ c.in_ok-end.was) in
+    let runs = run-found (run o c.args.queue) (c.in_ok-item.item, c.in_ok-item.number) (sym c.end.ensures.reply ∙ c.in_ok-item.was) in
     let runs_it = sym (ap (λ (v : ActiveView). run v.admissions c.args.queue) c.self.view_is) ∙ runs in
-    let known : c.in_ok-end.field-0.0 < c.args.self.now.admissions.items =
+    let known : c.in_ok-item.item < c.args.self.now.admissions.items =
     subst (λ (r : Option Ticket). IfSome r (λ t. t.item < c.args.self.now.admissions.items)) runs_it c.requires.known in
     let items = ap (λ (v : ActiveView). v.admissions.items) c.self.view_is in
     let word = c.intersection.ensures tt ∙ ap (λ n. bit_and n 8) (c.flags-word.ensures
-    ∙ ap (λ (o : Open). Rattle.zk_queue.specs.Open.flags o c.in_ok-end.field-0.0) c.end.ensures.next) in
+    ∙ ap (λ (o : Open). Rattle.zk_queue.specs.Open.flags o c.in_ok-item.item) c.end.ensures.next) in
     subst (λ (o : Open). AreMarked o c.self.inside.timeouts)
-    (sym (c.mark.ensures ∙ ap (λ (o : Open). mark o c.in_ok-end.field-0.0 c.intersection.result.0) c.end.ensures.next))
-    (over-marked o c.self.inside.timeouts c.args.queue c.in_ok-end.field-0.0 c.intersection.result.0 c.self.invariant
+    (sym (c.mark.ensures ∙ ap (λ (o : Open). mark o c.in_ok-item.item c.intersection.result.0) c.end.ensures.next))
+    (over-marked o c.self.inside.timeouts c.args.queue c.in_ok-item.item c.intersection.result.0 c.self.invariant
     (omega arith) word)
 
 pub returns-clause-admissions : goal.returns-clause-admissions
 returns-clause-admissions c =
     let o = c.self.inside.admissions in
-    let runs = run-found (run o c.args.queue) c.in_ok-end.field-0 (sym c.end.ensures.reply ∙ c.in_ok-end.was) in
+    let runs = run-found (run o c.args.queue) (c.in_ok-item.item, c.in_ok-item.number) (sym c.end.ensures.reply ∙ c.in_ok-item.was) in
     let word = c.intersection.ensures tt ∙ ap (λ n. bit_and n 8) (c.flags-word.ensures
-    ∙ ap (λ (o : Open). Rattle.zk_queue.specs.Open.flags o c.in_ok-end.field-0.0) c.end.ensures.next) in
-    ap undelayed (c.mark.ensures ∙ ap (λ (o : Open). mark o c.in_ok-end.field-0.0 c.intersection.result.0) c.end.ensures.next)
-    ∙ over-undelayed o c.args.queue c.in_ok-end.field-0.0 c.intersection.result.0 word
+    ∙ ap (λ (o : Open). Rattle.zk_queue.specs.Open.flags o c.in_ok-item.item) c.end.ensures.next) in
+    ap undelayed (c.mark.ensures ∙ ap (λ (o : Open). mark o c.in_ok-item.item c.intersection.result.0) c.end.ensures.next)
+    ∙ over-undelayed o c.args.queue c.in_ok-item.item c.intersection.result.0 word
     ∙ ap (λ (r : Option Ticket). option_map_or (λ t. mark (end (undelayed o) c.args.queue) t.item 0) r (undelayed o)) (sym runs)
     ∙ ap (λ (v : ActiveView). run_over v.admissions c.args.queue) c.self.view_is
