@@ -1,10 +1,10 @@
-use Rattle.std.proofs.Common.{◌≡◌, ◌<◌, Option, Some, None, sym, ap, subst, ◌∙◌, arith}
+use Rattle.std.proofs.Common.{◌≡◌, ◌<◌, Option, Some, None, refl, sym, ap, subst, ◌∙◌, arith}
 use Rattle.std.specs.Int.RustNames.{bit_and}
 use Rattle.std.specs.Option.{IfSome, option_map_or}
 use Rattle.zk_queue.specs.declared.ticket.Ticket.{Ticket}
 use Rattle.zk_queue.specs.Open.{Open, run, mark, end}
 use Rattle.zk_work.specs.Active.{ActiveView, undelayed, AreMarked, run_over}
-use Rattle.zk_work.proofs.Marked.{run-found, over-undelayed, over-marked}
+use Rattle.zk_work.proofs.Marked.{run-found, marked-alike, over-undelayed, over-marked}
 use Rattle.zk_work.proofs.active.Active.end.Goals as goal
 
 pub flags-word-requires : goal.flags-word-requires
@@ -20,6 +20,12 @@ flags-word-requires c =
 
 pub invariant_of-self : goal.invariant_of-self
 invariant_of-self c =
+    let o = c.self.inside.admissions in
+    subst (λ (o : Open). AreMarked o c.self.inside.timeouts) (sym c.end.ensures.next)
+    (marked-alike o (end o c.args.queue) c.self.inside.timeouts c.self.invariant refl refl)
+
+pub invariant_of-self-2 : goal.invariant_of-self-2
+invariant_of-self-2 c =
     let o = c.self.inside.admissions in
     let runs = run-found (run o c.args.queue) (c.in_ok-item.item, c.in_ok-item.number) (sym c.end.ensures.reply ∙ c.in_ok-item.was) in
     let runs_it = sym (ap (λ (v : ActiveView). run v.admissions c.args.queue) c.self.view_is) ∙ runs in
