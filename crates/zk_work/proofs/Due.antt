@@ -1,5 +1,5 @@
 -- The items that are due.
-use Rattle.std.proofs.Common.{ℕ, ◌≤◌, suc, Bool, true, false, cond, List, [], ◌∷◌, length, arith}
+use Rattle.std.proofs.Common.{ℕ, ◌≤◌, Bool, true, false, cond, List, [], ◌∷◌, length, arith}
 use Rattle.zk_time.specs.declared.timeout.Timeout.{Timeout}
 use Rattle.zk_time.specs.Timeouts.{is_due, count_due, due_rest, drop_due}
 use Rattle.zk_time.proofs.Orders.{IsOrdered-due}

@@ -2,24 +2,21 @@
 use Rattle.std.proofs.Common.{◌≡◌, ◌≢◌, ℕ, zero, suc, ◌-◌, ◌^◌, ◌<◌, Bool, true, false, not, ◌||◌, cond, if◌then◌else◌, Option, Some, None, option_map, List, [], ◌∷◌, length, map, get_or, set, replicate, All, refl, sym, ap, subst, ◌∙◌, ◌⊎◌, inl, inr, eq-eqb, arith}
 use Rattle.std.proofs.Math.ListN.{get_or-map}
 use Rattle.std.proofs.lemmas.Bool.{cases_eq, ne_eqb, eqb-true, or_parts}
-use Rattle.std.proofs.lemmas.List.{length-map, length-set, length-replicate, map-set, set-get_or, get_or-set_same, get_or-set_other, get_or-replicate}
+use Rattle.std.proofs.lemmas.List.{length-set, length-replicate, map-set, set-get_or, get_or-set_same, get_or-set_other, get_or-replicate}
 use Rattle.std.proofs.lemmas.List.Elements.{All-nil, All-cons, All-head}
 use Rattle.std.proofs.lemmas.Map.Views.{any-filter_same}
 use Rattle.std.specs.Int.RustNames.{bit_and, bit_or}
-use Rattle.std.specs.List.{filter, find, list_any}
-use Rattle.std.specs.Option.{IfSome, option_map_or}
-use Rattle.zk_base.specs.Order.{put_by}
+use Rattle.std.specs.List.{find, list_any}
+use Rattle.std.specs.Option.{option_map_or}
 use Rattle.zk_base.proofs.Order.{filter_all, list_any-put_by}
-use Rattle.zk_model_work.specs.Questions.{busy_flags}
 use Rattle.zk_time.specs.declared.timeout.Timeout.{Timeout}
 use Rattle.zk_time.specs.Timeouts.{Timeouts, is_of, is_due, nothing_armed, is_armed, deadline_of, queue_of, arm, disarm, due_first, due_rest, drop_due, Differ, IsOrdered}
 use Rattle.zk_queue.specs.declared.ticket.Ticket.{Ticket}
 use Rattle.zk_queue.specs.Open.{Open, ItemMarks, marks_in, unmarked, nothing_open, marks_of, run, next, is_running, is_queued, flags, mark, drop_item, begun, begin, end}
-use Rattle.zk_queue.proofs.Bits.{marks-in, delayed-on, delayed-off, delayed-only, flag-running, flag-cancelling, flag-queued, flag-delayed}
-use Rattle.zk_queue.specs.Words.{has_flag}
+use Rattle.zk_queue.proofs.Bits.{marks-in, delayed-on, delayed-off, delayed-only}
 use Rattle.zk_queue.specs.Open as tickets
 use Rattle.zk_time.specs.Timeouts as spec
-use Rattle.zk_work.specs.Active.{undelayed_marks, undelayed, AreMarked, run_over}
+use Rattle.zk_work.specs.Active.{undelayed_marks, undelayed, AreMarked}
 use Rattle.zk_work.specs.Engine.{cancelled}
 use Rattle.zk_work.proofs.Delaying.{disarmed-free}
 

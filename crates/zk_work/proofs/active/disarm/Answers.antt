@@ -1,9 +1,8 @@
-use Rattle.std.proofs.Common.{◌≡◌, ◌-◌, ◌^◌, false, sym, ap, subst, ◌∙◌, arith}
+use Rattle.std.proofs.Common.{◌-◌, ◌^◌, sym, ap, subst, ◌∙◌}
 use Rattle.std.specs.Int.RustNames.{bit_and}
 use Rattle.zk_queue.specs.Open.{Open, mark, marks_of, is_running, is_queued}
 use Rattle.zk_queue.specs.Words.{has_flag}
 use Rattle.zk_queue.proofs.Bits.{flag-delayed}
-use Rattle.zk_time.specs.Timeouts.{Timeouts, is_armed}
 use Rattle.zk_work.specs.Active.{undelayed, AreMarked}
 use Rattle.zk_work.proofs.Marked.{disarmed-marked, disarmed-undelayed, disarmed-none}
 use Rattle.zk_work.proofs.active.disarm.Goals as goal

@@ -1,7 +1,6 @@
-use Rattle.std.proofs.Common.{◌≡◌, sym, ap, subst, ◌∙◌, arith}
+use Rattle.std.proofs.Common.{sym, ap, subst, ◌∙◌, arith}
 use Rattle.std.specs.Int.RustNames.{bit_or}
-use Rattle.zk_queue.specs.Open.{Open, mark, flags}
-use Rattle.zk_time.specs.Timeouts.{Timeouts, arm}
+use Rattle.zk_queue.specs.Open.{Open, mark}
 use Rattle.zk_work.specs.Active.{ActiveView, undelayed, AreMarked}
 use Rattle.zk_work.proofs.Marked.{armed-marked, armed-undelayed}
 use Rattle.zk_work.proofs.active.Active.arm.Goals as goal

@@ -1,4 +1,4 @@
-use Rattle.std.proofs.Common.{refl, sym, ap, subst, ◌∙◌}
+use Rattle.std.proofs.Common.{sym, ap, subst, ◌∙◌}
 use Rattle.zk_queue.specs.Open.{Open, begin}
 use Rattle.zk_work.specs.Active.{ActiveView, undelayed, AreMarked}
 use Rattle.zk_work.proofs.Marked.{undelayed-begin, marked-begin}

@@ -1,4 +1,4 @@
-use Rattle.std.proofs.Common.{◌≡◌, ◌<◌, refl, sym, ap, subst, ◌∙◌, arith}
+use Rattle.std.proofs.Common.{refl, sym, ap, subst, ◌∙◌, arith}
 use Rattle.zk_queue.specs.Open.{Open, drop_item, mark, marks_of, is_running, is_queued, flags}
 use Rattle.zk_queue.specs.Words.{has_flag}
 use Rattle.zk_queue.proofs.Bits.{flag-running}

@@ -1,5 +1,4 @@
-use Rattle.std.proofs.Common.{sym, ap, ◌∙◌, arith}
-use Rattle.zk_time.specs.Timeouts as spec
+use Rattle.std.proofs.Common.{ap, ◌∙◌}
 use Rattle.zk_work.specs.Active.{ActiveView}
 use Rattle.zk_work.proofs.active.Active.disarm.Goals as goal
 

@@ -1,8 +1,7 @@
-use Rattle.std.proofs.Common.{◌≡◌, ◌<◌, ◌-◌, ◌^◌, Option, Some, None, refl, sym, ap, subst, ◌∙◌, arith}
+use Rattle.std.proofs.Common.{◌-◌, ◌^◌, sym, ap, subst, ◌∙◌, arith}
 use Rattle.std.specs.Int.RustNames.{bit_and}
 use Rattle.zk_queue.specs.Open.{Open, mark, flags}
-use Rattle.zk_time.specs.declared.timeout.Timeout.{Timeout}
-use Rattle.zk_time.specs.Timeouts.{Timeouts, due_first, drop_due, IsOrdered}
+use Rattle.zk_time.specs.Timeouts.{due_first, IsOrdered}
 use Rattle.zk_work.specs.Active.{ActiveView, undelayed, AreMarked}
 use Rattle.zk_work.proofs.Marked.{due-found, due-none, due-marked, due-within, disarmed-undelayed, no-pair}
 use Rattle.zk_work.proofs.active.Active.due.Goals as goal

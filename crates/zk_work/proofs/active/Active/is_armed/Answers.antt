@@ -1,4 +1,4 @@
-use Rattle.std.proofs.Common.{◌≡◌, ap, ◌∙◌, arith}
+use Rattle.std.proofs.Common.{ap, ◌∙◌, arith}
 use Rattle.zk_queue.specs.Open.{marks_of, is_running, is_queued}
 use Rattle.zk_queue.specs.Words.{has_flag}
 use Rattle.zk_queue.proofs.Bits.{flag-delayed}

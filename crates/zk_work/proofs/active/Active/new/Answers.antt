@@ -1,6 +1,5 @@
-use Rattle.std.proofs.Common.{◌≡◌, ap, subst, sym, ◌∙◌}
+use Rattle.std.proofs.Common.{ap, subst, sym, ◌∙◌}
 use Rattle.zk_queue.specs.Open.{Open, nothing_open}
-use Rattle.zk_time.specs.Timeouts.{Timeouts}
 use Rattle.zk_work.specs.Active.{undelayed, AreMarked}
 use Rattle.zk_work.proofs.Marked.{marked-fresh, undelayed-fresh}
 use Rattle.zk_work.proofs.active.Active.new.Goals as goal

@@ -1,4 +1,4 @@
-use Rattle.std.proofs.Common.{None, option_map, sym, ap, ◌∙◌}
+use Rattle.std.proofs.Common.{option_map, sym, ap, ◌∙◌}
 use Rattle.zk_time.specs.declared.timeout.Timeout.{Timeout}
 use Rattle.zk_work.proofs.Marked.{find_absent}
 use Rattle.zk_work.proofs.active.Active.queue.Goals as goal

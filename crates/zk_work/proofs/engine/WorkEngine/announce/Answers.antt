@@ -1,7 +1,7 @@
-use Rattle.std.proofs.Common.{◌≡◌, ◌≤◌, ◌+◌, ℕ, map, vec_len, sym, ap, ◌∙◌, arith}
+use Rattle.std.proofs.Common.{◌≡◌, ◌+◌, map, sym, ap, ◌∙◌, arith}
 use Rattle.zk_model_work.specs.declared.ops.Expiry.{Expiry}
 use Rattle.zk_time.specs.Timeouts.{Timeouts, count_due}
-use Rattle.zk_work.specs.EngineState.{EngineState, EngineView}
+use Rattle.zk_work.specs.EngineState.{EngineView}
 use Rattle.zk_work.proofs.Due.{due-fits}
 use Rattle.zk_work.proofs.engine.WorkEngine.announce.Goals as goal
 

@@ -5,7 +5,6 @@ use Rattle.zk_model_work.specs.declared.ops.WorkReply.{WorkReply}
 use Rattle.zk_model_work.specs.Machine.{work_next, is_among}
 use Rattle.zk_work.specs.EngineState.{EngineState, IsWhole, StandsFor}
 use Rattle.zk_work.specs.Engine.{IsTimely, reply_of, entered, after_reply}
-use Rattle.zk_work.specs.Touched.{touched_item}
 use Rattle.zk_work.proofs.Steps.{refused, stepped, ranges-same}
 use Rattle.zk_work.proofs.Untouched.{words-same, word-kept_item, word-kept_told}
 use Rattle.zk_work.proofs.engine.WorkEngineEngine.step.Goals as goal
