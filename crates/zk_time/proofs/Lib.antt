@@ -3,4 +3,4 @@ mod Arms
 mod Disarming
 mod Looks
 pub mod Orders
-mod Room
+pub mod Room

@@ -47,6 +47,20 @@ pub entries-expired : (n time : ℕ) (k : EngineState) → (expired n time k).en
 entries-expired zero time k = refl
 entries-expired (suc n) time k = entries-next time (expired n time k) ∙ entries-expired n time k
 
+-- and none makes an item
+items-next : (time : ℕ) (j : EngineState) → (expired_next time j).active.items ≡ j.active.items
+items-next time j = by (due_first time j.timeouts.live) where
+  by : (o : Option Timeout) →
+      (option_map_or (λ (t : Timeout). submitted (record j { timeouts = drop_due j.timeouts time }) t.item
+      (answer_of j None t.item (Some t.queue))) o j).active.items ≡ j.active.items
+  by None = refl
+  by (Some t) = submitted-same (λ (i : EngineState). i.active.items) (record j { timeouts = drop_due j.timeouts time }) t.item
+      (answer_of j None t.item (Some t.queue)) (λ queue. refl)
+
+pub items-expired : (n time : ℕ) (k : EngineState) → (expired n time k).active.items ≡ k.active.items
+items-expired zero time k = refl
+items-expired (suc n) time k = items-next time (expired n time k) ∙ items-expired n time k
+
 module _ (k : EngineState) (s : State) (st : StandsFor k s) (time : ℕ) where
   abbrev none : Arm
   none = record { item = 0; queue = 0; deadline = 0; fate = Live }

@@ -33,7 +33,7 @@ use Rattle.zk_work.proofs.Awaiting.{runs_by, flushed-same, new-wait}
 use Rattle.zk_work.proofs.Beside.{submitted-same, entries-later, whole-beside, counted-stands, wait-stands, rearmed}
 use Rattle.zk_work.proofs.Admissions.{admitted-stands, cancel-stands}
 
-fewer-filter : (p : Timeout → Bool) (ts : List Timeout) → length (filter p ts) ≤ length ts
+pub fewer-filter : (p : Timeout → Bool) (ts : List Timeout) → length (filter p ts) ≤ length ts
 fewer-filter p ts =
     let long = length-filter p ts in
     let most = count_by-le-length p ts in

@@ -8,9 +8,11 @@ mod Beside
 mod Cancelling
 mod Changes
 mod Delaying
+mod Due
 mod Fresh
 mod Items
 mod LastQueues
+mod Marked
 mod Numbers
 pub mod Owed
 mod Replies

@@ -1,3 +1,4 @@
+pub mod Active
 pub mod Engine
 pub mod EngineState
 pub mod Seen

@@ -5,15 +5,7 @@ use Rattle.zk_model_work.specs.declared.ops.WorkReply.{WorkReply}
 use Rattle.zk_model_work.specs.declared.ops.WorkReply.TheVariants.{Now}
 use Rattle.zk_model_work.specs.Lists.{first}
 use Rattle.zk_queue.specs.Open.{line, run}
-use Rattle.zk_work.specs.declared.touched.Touched.{Touched}
-use Rattle.zk_work.specs.declared.touched.Touched.TheVariants.{Nothing, One, Many}
 use Rattle.zk_work.specs.EngineState.{EngineState}
-
--- the items that are kept
-abbrev pub items_in : Touched → List ℕ
-items_in Nothing = []
-items_in (One items) = items
-items_in (Many items) = items.items
 
 -- the item whose busy flags an operation may change, unless it is an announce:
 -- the one that it names, the first in the line of the queue that begins, or what the queue that ends runs

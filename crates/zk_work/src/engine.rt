@@ -10,21 +10,19 @@ ghost use Rattle.zk_work.specs.Touched.{touched_item, told_items};
 ghost use Rattle.zk_work.specs.Words.{most_items, most_queues};
 ghost use Rattle.zk_work.specs.Engine.{item_of, answer_of, MayAdmit, admitted, submitted, disarmed, is_pending_in, delayed, delay_reply_in, hurried, expiry_of, expired_next, expired, told, announced, announce_reply, flags_of, may_close, closed, reply_of, after_reply, is_now, IsTimely};
 
-use crate::active::{busy_with, cancel, settle};
-use crate::touched::{Touched, tell_items};
+use crate::active::{Active, settle};
+use crate::touched::tell_items;
 use crate::waits::{close, is_flushing, may_close};
 use bitflags::Flags;
 use std::alloc::Global;
 use std::marker::Model;
-use zk_base::{Engine, Listed, NoMemory, Who};
+use zk_base::{Engine, Listed, NoMemory, Who, push_within};
 use zk_model_work::{
     BusyFlags, Change, Closing, Expiry, Item, Queue, Submitted, Wait, WorkOp, WorkReply, WorkState,
     cancel_start_reply, cancel_wait, change, drain, drain_reply, drain_wait, flags,
     flush_start_reply, flush_wait, fresh_queues, is_pending, is_worker, put_wait, remaining,
     start_reply, submission, unplug_reply,
 };
-use zk_queue::Queues;
-use zk_time::TimeoutList;
 
 /// What an operation answers, where there is memory: its reply, where it is possible.
 type Replied = Result<Option<WorkReply>, NoMemory>;
@@ -44,20 +42,18 @@ pub struct WorkEngine {
     running: u64,
     // The queue of each item's last admission. An item that runs, runs there.
     last: Vec<Option<u32>>,
-    active: Queues,
-    // The items that are armed.
-    timeouts: TimeoutList,
+    // What waits, what runs, and the items that are armed.
+    active: Active,
     // The waits that aren't answered.
     waits: Vec<Wait>,
     queues: Vec<Queue>,
-    // The items whose busy flags the last entry may have changed.
-    touched: Touched,
+    // The items whose busy flags the last operation may have changed. There is room for each item.
+    touched: Vec<u32>,
 }
 
 impl Model for WorkEngine {
-    ghost use Rattle.std.specs.Prelude.{◌≡◌, ◌-◌, ◌^◌, ◌≤◌, length, vec_len, vec_capacity};
+    ghost use Rattle.std.specs.Prelude.{◌≡◌, ◌+◌, ◌-◌, ◌^◌, ◌≤◌, length, vec_len, vec_capacity};
     ghost use Rattle.zk_work.specs.EngineState.{EngineState, EngineView};
-    ghost use Rattle.zk_work.specs.Touched.{items_in};
 
     ghost Value = { EngineView };
 
@@ -68,18 +64,19 @@ impl Model for WorkEngine {
         made = a.made;
         running = a.running;
         last = a.last.items;
-        active = a.active;
-        timeouts = a.timeouts;
+        active = a.active.admissions;
+        timeouts = a.active.timeouts;
         waits = a.waits.items;
         queues = a.queues.items;
       };
       room = vec_capacity a.waits - vec_len a.waits;
-      touched = items_in a.touched;
+      touched = a.touched.items;
     } };
 
     ghost invariant = { λ a. record {
       runs : a.running ≤ 2 ^ 32;
-      items : length a.last.items ≡ a.active.items;
+      items : length a.last.items ≡ a.active.admissions.items;
+      touched : a.active.admissions.items + 1 ≤ vec_capacity a.touched;
     } };
 }
 
@@ -139,9 +136,9 @@ impl WorkEngine {
         ensures { IfOk result (λ e. StandsFor e.state (start_of items workers.now started.now)) }
     {
         let queues = fresh_queues(alloc, workers, started)?;
-        let active = Queues::new(alloc, items, workers.len() as u32)?;
-        let timeouts = TimeoutList::new(alloc, items)?;
+        let active = Active::new(alloc, items, workers.len() as u32)?;
         let last = no_queues(alloc, items)?;
+        let touched = Vec::with_capacity(alloc, items as usize + 1)?;
         Ok(WorkEngine {
             time: 0,
             entries: 0,
@@ -149,10 +146,9 @@ impl WorkEngine {
             running: 0,
             last,
             active,
-            timeouts,
             waits: Vec::new(alloc),
             queues,
-            touched: Touched::Nothing,
+            touched,
         })
     }
 
@@ -161,7 +157,7 @@ impl WorkEngine {
         requires item { item < self.now.state.active.items }
         ensures { result ≡ item_of self.now.state item }
     {
-        let busy = busy_with(&self.active, item);
+        let busy = self.active.busy(item);
         let last = self.last[item as usize];
         Item {
             cancelling: busy.cancelling,
@@ -234,7 +230,7 @@ impl WorkEngine {
         requires item { item < self.now.state.active.items }
         ensures { result.0 ≡ flags_of self.now.state item }
     {
-        let armed = self.timeouts.is_armed(item);
+        let armed = self.active.is_armed(item);
         let flushing = is_flushing(&self.active, &self.waits, item);
         flags(self.item(item), armed, flushing)
     }
@@ -246,8 +242,7 @@ impl WorkEngine {
         ensures next { self.new.state ≡ after_reply self.old.state who (WorkOp.Cancel item) result }
         ensures room { self.new.room ≡ self.old.room }
     {
-        self.timeouts.disarm(item);
-        cancel(&mut self.active, item);
+        self.active.cancel(item);
         settle(&self.active, &mut self.queues);
         self.entries += 1;
         Some(WorkReply::Flags(self.flags(item).bits()))
@@ -269,8 +264,7 @@ impl WorkEngine {
         let run = self.active.running(item);
         let wait = cancel_wait(self.entries, who, run);
         put_wait(&mut self.waits, wait)?;
-        self.timeouts.disarm(item);
-        cancel(&mut self.active, item);
+        self.active.cancel(item);
         settle(&self.active, &mut self.queues);
         self.entries += 1;
         Ok(Some(cancel_start_reply(flags.bits(), run.is_some())))
@@ -301,12 +295,13 @@ impl WorkEngine {
     /// The item isn't armed any more.
     fn disarm(&mut self, item: u32)
         requires whole { IsWhole self.old.state }
+        requires item { item < self.old.state.active.items }
         ensures next { self.new.state ≡ disarmed self.old.state item }
         ensures whole { IsWhole self.new.state }
         ensures free { is_armed self.new.state.timeouts item ≡ false }
         ensures room { self.new.room ≡ self.old.room }
     {
-        self.timeouts.disarm(item);
+        self.active.disarm(item);
     }
 
     /// The item's delay ends, if it has one: the item is submitted by the player.
@@ -316,7 +311,7 @@ impl WorkEngine {
         ensures next { self.new.state ≡ hurried self.old.state who item }
         ensures room { self.new.room ≡ self.old.room }
     {
-        let queue = self.timeouts.queue(item);
+        let queue = self.active.queue(item);
         self.disarm(item);
         if let Some(queue) = queue {
             let answer = self.answer(Some(who.number), item, Some(queue));
@@ -329,7 +324,7 @@ impl WorkEngine {
         requires item { item < self.now.state.active.items }
         ensures { result ≡ is_pending_in self.now.state item }
     {
-        is_pending(self.item(item), self.timeouts.is_armed(item))
+        is_pending(self.item(item), self.active.is_armed(item))
     }
 
     /// Gives an item that isn't armed a delay: with none it is submitted.
@@ -348,7 +343,7 @@ impl WorkEngine {
             return WorkReply::Sub(answer);
         }
         let deadline = self.time + u64::from(delay);
-        self.timeouts.arm(item, queue, deadline);
+        self.active.arm(item, queue, deadline);
         WorkReply::Armed
     }
 
@@ -389,12 +384,13 @@ impl WorkEngine {
 
     fn remaining(&mut self, who: Who, item: u32) -> Option<WorkReply>
         requires whole { IsWhole self.old.state }
+        requires item { item < self.old.state.active.items }
         ensures reply { result ≡ reply_of self.old.state who (WorkOp.Remaining item) }
         ensures next { self.new.state
             ≡ after_reply self.old.state who (WorkOp.Remaining item) result }
         ensures room { self.new.room ≡ self.old.room }
     {
-        let remaining = remaining(self.timeouts.deadline(item), self.time);
+        let remaining = remaining(self.active.deadline(item), self.time);
         self.entries += 1;
         Some(WorkReply::Number(remaining))
     }
@@ -409,7 +405,7 @@ impl WorkEngine {
         ensures known { IfSome result (λ t. t.0 < self.old.state.active.items) }
         ensures room { self.new.room ≡ self.old.room }
     {
-        self.timeouts.due(time)
+        self.active.due(time)
     }
 
     /// The first item that is due by this time is submitted by nobody. One has to be due.
@@ -444,9 +440,10 @@ impl WorkEngine {
             ≡ told (count_due self.old.state.timeouts time) time self.old.state }
         ensures count { vec_len expiries.new ≡ count_due self.old.state.timeouts time }
         ensures entries { self.new.state.entries ≡ self.old.state.entries }
+        ensures items { self.new.state.active.items ≡ self.old.state.active.items }
         ensures room { self.new.room ≡ self.old.room }
     {
-        for _ in 0..self.timeouts.count_due(time) {
+        for _ in 0..self.active.count_due(time) {
             let expiry = self.expire_next(time);
             tell(expiries, expiry);
             tell(copy, expiry);
@@ -459,6 +456,7 @@ impl WorkEngine {
         ensures next { self.new.state
             ≡ record self.old.state { time = time; entries = self.old.state.entries + 1 } }
         ensures room { self.new.room ≡ self.old.room }
+        ensures touched { self.new.touched ≡ self.old.touched }
     {
         self.time = time;
         self.entries += 1;
@@ -479,16 +477,15 @@ impl WorkEngine {
         ensures timely { ticks < 2 ^ 32 }
         ensures room { self.new.room ≡ self.old.room }
     {
+        self.touched.clear();
         let alloc = *self.waits.allocator();
         let time = self.time + u64::from(ticks);
-        let due = self.timeouts.count_due(time);
+        let due = self.active.count_due(time);
         let mut expiries = Vec::with_capacity(alloc, due)?;
         let mut copy = Vec::with_capacity(alloc, due)?;
-        let mut touched = Vec::with_capacity(alloc, due)?;
         self.expire(time, &mut expiries, &mut copy);
-        tell_items(&mut touched, &expiries);
+        tell_items(&mut self.touched, &expiries);
         self.set_time(time);
-        self.touched = Touched::Many(touched);
         Ok((
             WorkReply::Now(time, Listed::from_vec(expiries)),
             WorkReply::Now(time, Listed::from_vec(copy)),
@@ -634,8 +631,7 @@ impl WorkEngine {
         if !is_worker(&self.queues, queue, who.number) {
             return None;
         }
-        let (item, _) = self.active.end(queue)?;
-        self.active.mark(item, BusyFlags::empty());
+        self.active.end(queue)?;
         settle(&self.active, &mut self.queues);
         self.running -= 1;
         self.entries += 1;
@@ -666,7 +662,10 @@ impl WorkEngine {
         ensures room { self.new.room ≡ self.old.room }
         ensures touched { self.new.touched ≡ option_to_list item }
     {
-        self.touched = Touched::of(item);
+        self.touched.clear();
+        if let Some(item) = item {
+            push_within(&mut self.touched, item);
+        }
     }
 
     /// One operation that isn't an announce.
@@ -745,6 +744,7 @@ impl Engine for WorkEngine {
             return Ok(Some(self.announce(ticks)?));
         }
         let touched = self.touched_item(op);
+        self.touch(None);
         match self.operate(who, op)? {
             None => Ok(None),
             Some(reply) => {
@@ -778,7 +778,7 @@ impl Engine for WorkEngine {
     }
 
     fn touched(&self) -> &[u32] {
-        self.touched.items()
+        &self.touched
     }
 
     fn reserve(&mut self) -> Result<(), NoMemory> {

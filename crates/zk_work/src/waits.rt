@@ -3,9 +3,9 @@ ghost use Rattle.std.specs.List.{list_any};
 ghost use Rattle.zk_model_work.specs.Answers.{closes};
 ghost use Rattle.zk_work.specs.Engine.{is_number, flushes, is_flushing, has_come, left_waits};
 
+use crate::active::Active;
 use zk_base::Who;
 use zk_model_work::{Awaited, Closing, Queue, Wait, drained_of, is_unanswered};
-use zk_queue::Queues;
 
 /// Whether it is this number.
 fn is_number(number: u64, found: Option<u64>) -> bool
@@ -28,9 +28,9 @@ fn flushes(waiting: Option<u64>, running: Option<u64>, awaited: Awaited) -> bool
 }
 
 /// Whether a flush waits for an admission of the item.
-pub fn is_flushing(active: &Queues, waits: &[Wait], item: u32) -> bool
-    requires { item < active.now.items }
-    ensures { result ≡ is_flushing active.now waits.now item }
+pub fn is_flushing(active: &Active, waits: &[Wait], item: u32) -> bool
+    requires { item < active.now.admissions.items }
+    ensures { result ≡ is_flushing active.now.admissions waits.now item }
 {
     let waiting = active.waiting(item);
     let running = active.running(item);
@@ -38,8 +38,8 @@ pub fn is_flushing(active: &Queues, waits: &[Wait], item: u32) -> bool
 }
 
 /// Whether what is awaited has come, where it is of this kind.
-fn has_come(active: &Queues, queues: &[Queue], closing: Closing, awaited: Awaited) -> bool
-    ensures { result ≡ has_come active.now queues.now closing awaited }
+fn has_come(active: &Active, queues: &[Queue], closing: Closing, awaited: Awaited) -> bool
+    ensures { result ≡ has_come active.now.admissions queues.now closing awaited }
 {
     match (closing, awaited) {
         (Closing::Cancel, Awaited::Cancel(number)) => !active.is_open(number),
@@ -51,28 +51,28 @@ fn has_come(active: &Queues, queues: &[Queue], closing: Closing, awaited: Awaite
 
 /// Whether this is the player's wait of this place, and what it awaits has come.
 fn closes(
-    active: &Queues,
+    active: &Active,
     queues: &[Queue],
     closing: Closing,
     who: Who,
     place: u64,
     wait: Wait,
 ) -> bool
-    ensures { result ≡ closes (has_come active.now queues.now closing) who place wait }
+    ensures { result ≡ closes (has_come active.now.admissions queues.now closing) who place wait }
 {
     is_unanswered(wait, place, who.number) && has_come(active, queues, closing, wait.awaited)
 }
 
 /// Whether there is such a wait.
 pub fn may_close(
-    active: &Queues,
+    active: &Active,
     queues: &[Queue],
     waits: &[Wait],
     closing: Closing,
     who: Who,
     place: u64,
 ) -> bool
-    ensures { result ≡ list_any (closes (has_come active.now queues.now closing) who place) waits.now }
+    ensures { result ≡ list_any (closes (has_come active.now.admissions queues.now closing) who place) waits.now }
 {
     waits
         .iter()
@@ -81,7 +81,7 @@ pub fn may_close(
 
 /// The waits that this ends are taken out.
 pub fn close(
-    active: &Queues,
+    active: &Active,
     queues: &[Queue],
     waits: &mut Vec<Wait>,
     closing: Closing,
@@ -89,7 +89,7 @@ pub fn close(
     place: u64,
 )
     ensures items { waits.new.items
-        ≡ left_waits active.now queues.now waits.old.items closing who place }
+        ≡ left_waits active.now.admissions queues.now waits.old.items closing who place }
     ensures len { vec_len waits.new ≤ vec_len waits.old }
     ensures capacity { vec_capacity waits.new ≡ vec_capacity waits.old }
 {
