@@ -1,6 +1,5 @@
 -- What holds of the rows of calls alone: no observer is named twice, and only a poll has events.
-use Rattle.std.proofs.Common.{◌≡◌, ℕ, suc, ◌+◌, ◌≤◌, Bool, true, false, not, cond, ◌&&◌, ◌||◌, List, [], ◌∷◌, map, length, count_by, nat_lt, nat_le, Option, Some, None, refl, sym, ap, ◌∙◌, arith}
-use Rattle.std.specs.Prelude.{option_map, option_and_then}
+use Rattle.std.proofs.Common.{◌≡◌, ℕ, suc, ◌+◌, ◌≤◌, Bool, true, false, not, cond, ◌&&◌, ◌||◌, List, [], ◌∷◌, map, length, count_by, nat_lt, nat_le, Some, refl, sym, ap, ◌∙◌, arith}
 use Rattle.std.specs.List.{list_any}
 use Rattle.std.specs.Str.{bytes_eq}
 use Rattle.std.proofs.lemmas.Bool.{and_parts, leb-true, ltb-true, not-true}
@@ -32,7 +31,7 @@ use Rattle.zk_line.specs.Shapes.{as_event, all_events, few_events, events_of, wa
 use Rattle.zk_line.proofs.Options.{one_part}
 
 -- whether none of the slots passes a test
-none_of : (Slot → Bool) → List Slot → Rest → Bool
+abbrev none_of : (Slot → Bool) → List Slot → Rest → Bool
 none_of test [] Nothing = true
 none_of test [] (Maybe s) = not (test s)
 none_of test [] (Many s) = not (test s)
@@ -40,7 +39,7 @@ none_of test [] Events = not (test slot.Event)
 none_of test (s ∷ slots) rest = not (test s) && none_of test slots rest
 
 -- whether not more than one is that of an observer
-one_of : List Slot → Rest → Bool
+abbrev one_of : List Slot → Rest → Bool
 one_of [] Nothing = true
 one_of [] (Maybe s) = true
 one_of [] (Many s) = not (is_observer_slot s)
@@ -88,13 +87,13 @@ once [] (Maybe s) (word ∷ words) one = alone (is_observer_slot s)
 once [] (Many s) words one = once_each s words (not-true (is_observer_slot s) one)
 once [] Events words one = once_each slot.Event words refl
 once (s ∷ slots) rest [] one = refl
-once (s ∷ slots) rest (word ∷ words) one = by_test (is_observer_slot s) one where
+once (s ∷ slots) rest (word ∷ words) one = by_test (λ e. once slots rest words e) (is_observer_slot s) one where
   parts : List Placed
   parts = parts_of slots rest words
 
-  by_test : (b : Bool) → cond b (none_of is_observer_slot slots rest) (one_of slots rest) ≡ true → (not (b && names_observer word parts) && name_once parts) ≡ true
-  by_test true none = ap (λ x. not x && name_once parts) (none_named word slots rest words none) ∙ once slots rest words (none_one slots rest none)
-  by_test false one = once slots rest words one
+  by_test : (one_of slots rest ≡ true → name_once parts ≡ true) → (b : Bool) → cond b (none_of is_observer_slot slots rest) (one_of slots rest) ≡ true → (not (b && names_observer word parts) && name_once parts) ≡ true
+  by_test others true none = ap (λ x. not x && name_once parts) (none_named word slots rest words none) ∙ others (none_one slots rest none)
+  by_test others false one = others one
 
 -- the row of a call has no two observers
 row_once : (w : Word) → one_of (call_row w).slots (call_row w).rest ≡ true

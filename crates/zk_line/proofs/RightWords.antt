@@ -15,7 +15,7 @@ use Rattle.zk_words.specs.declared.slot.Slot.{Slot}
 use Rattle.zk_words.specs.declared.slot.Slot.TheVariants as slot
 use Rattle.zk_words.specs.declared.timeout.Timeout.{Timeout}
 use Rattle.zk_words.specs.declared.timeout.Timeout.TheVariants.{No, Forever, Ticks}
-use Rattle.zk_words.specs.Events.{Asking, event_named, is_ignore, is_event, need_of}
+use Rattle.zk_words.specs.Events.{Asking, event_named, is_ignore, need_of}
 use Rattle.zk_words.specs.Hex.{is_hex, msg_of}
 use Rattle.zk_words.specs.Numbers.{is_number, number_of, number_in}
 use Rattle.zk_words.specs.Spelled.{is_spelled_in}
@@ -26,13 +26,12 @@ use Rattle.zk_line.specs.declared.types.Ref.{Ref}
 use Rattle.zk_line.specs.declared.types.Ref.TheVariants.{Known, Unknown}
 use Rattle.zk_line.specs.declared.types.Arg.{Arg}
 use Rattle.zk_line.specs.declared.types.Arg.TheVariants.{Object, Number, Bytes, Wait, Event}
-use Rattle.zk_line.specs.declared.events.Event.{Event as PollEvent}
 use Rattle.zk_line.specs.declared.events.Event.TheVariants as event
-use Rattle.zk_line.specs.Args.{named_ref, ref_of, event_of, arg_of}
+use Rattle.zk_line.specs.Args.{named_ref, ref_of, arg_of}
 use Rattle.zk_line.specs.Checks.{size_said, is_in_range, hex_in_range, is_right_object, is_well_named}
 use Rattle.zk_line.specs.Few.{event_at}
 use Rattle.zk_line.specs.Objects.{AreNames, object_of, name_of, is_at, is_met}
-use Rattle.zk_line.specs.Right.{IsRight, Says}
+use Rattle.zk_line.specs.Right.{Says}
 use Rattle.zk_line.specs.Weights.{Weighs}
 use Rattle.zk_line.proofs.Options.{one_part}
 

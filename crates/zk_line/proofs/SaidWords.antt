@@ -1,9 +1,9 @@
 -- A line that is right is read word by word.
-use Rattle.std.proofs.Common.{◌≡◌, ℕ, Bool, true, false, ◌&&◌, ◌||◌, List, [], ◌∷◌, ◌++◌, map, Option, Some, refl, sym, ap, subst, ◌∙◌, append_assoc}
+use Rattle.std.proofs.Common.{◌≡◌, ℕ, ◌-◌, ◌≤◌, Bool, true, false, ◌||◌, List, [], ◌∷◌, ◌++◌, length, get_or, take, drop, map, refl, sym, ap, subst, ◌∙◌, append_assoc, arith}
 use Rattle.std.specs.Prelude.{option_map, option_and_then}
 use Rattle.std.specs.List.{list_all, list_any}
 use Rattle.std.proofs.lemmas.Bool.{and_from}
-use Rattle.std.proofs.lemmas.List.{append-nil}
+use Rattle.std.proofs.lemmas.List.{append-nil, take_rest}
 use Rattle.zk_words.specs.declared.slot.Slot.{Slot}
 use Rattle.zk_words.specs.declared.slot.Slot.TheVariants as slot
 use Rattle.zk_words.specs.declared.slot.Rest.{Rest}
@@ -13,7 +13,7 @@ use Rattle.zk_words.specs.Parts.{Placed, placed, rest_parts, parts_of, rest_fits
 use Rattle.zk_words.specs.Spelled.{is_spelled_in, part_is_spelled}
 use Rattle.zk_line.specs.declared.types.Decl.{Decl}
 use Rattle.zk_line.specs.declared.types.Arg.{Arg}
-use Rattle.zk_line.specs.Args.{arg_of, args_of}
+use Rattle.zk_line.specs.Args.{args_of}
 use Rattle.zk_line.specs.Checks.{size_said, is_in_range, each_in_range, is_well_named, each_well_named}
 use Rattle.zk_line.specs.Right.{size_with, IsRight, AreRight, Says}
 use Rattle.zk_line.proofs.ReadTo.{in_range_next, size_next}
@@ -74,6 +74,11 @@ pub record IsSaidTo (free : Bool) (decls : List Decl) (rest : Rest) (all_slots :
   pub fitting : fits all_slots rest all_words ≡ fits slots rest words
   pub behind : (all : List Arg) → AreRight free decls said (parts_of slots rest words) all → AreRight free decls before (parts_of all_slots rest all_words) all
 
+-- slots of which one is left begin with it
+pub first_slot : (slots : List Slot) → 1 ≤ length slots → slots ≡ get_or slots 0 slot.New ∷ take (length slots - 1) (drop 1 slots)
+first_slot [] some = absurd (omega (arith, some))
+first_slot (s ∷ slots) some = ap (λ more. s ∷ more) (sym (take_rest (s ∷ slots) 1))
+
 -- they are read one word further
 pub said_next : (free : Bool) (decls : List Decl) (rest : Rest) (all_slots : List Slot) (all_words : List (List ℕ)) (before : List Arg) (slots : List Slot) (words : List (List ℕ)) (said : List Arg)
     (s : Slot) (more : List Slot) (word : List ℕ) (left : List (List ℕ)) (after : List Arg) → IsSaidTo free decls rest all_slots all_words before slots words said → slots ≡ s ∷ more → words ≡ word ∷ left
@@ -85,11 +90,12 @@ said_next free decls rest all_slots all_words before slots words said s more wor
     }
 
 -- to the end of the slots
-pub said_last : (free : Bool) (decls : List Decl) (rest : Rest) (all_slots : List Slot) (all_words : List (List ℕ)) (before : List Arg) (slots : List Slot) (words : List (List ℕ)) (said all : List Arg)
-    → IsSaidTo free decls rest all_slots all_words before slots words said → slots ≡ [] → (rest_fits rest words ≡ true) × AreRight free decls said (rest_parts rest words) all
+pub said_last : (free : Bool) (decls : List Decl) (rest : Rest) (all_slots : List Slot) (all_words : List (List ℕ)) (before : List Arg) (slots : List Slot) (words : List (List ℕ)) (said : List Arg) (same : Rest) (all : List Arg)
+    → IsSaidTo free decls rest all_slots all_words before slots words said → slots ≡ [] → same ≡ rest → (rest_fits same words ≡ true) × AreRight free decls said (rest_parts same words) all
     → (fits all_slots rest all_words ≡ true) × AreRight free decls before (parts_of all_slots rest all_words) all
-said_last free decls rest all_slots all_words before slots words said all held none last =
-    let now = subst (λ ss. IsSaidTo free decls rest all_slots all_words before ss words said) none held in (now.fitting ∙ last.0, now.behind all last.1)
+said_last free decls rest all_slots all_words before slots words said same all held none is last =
+    let now = subst (λ ss. IsSaidTo free decls rest all_slots all_words before ss words said) none held in
+    let end = subst (λ r. (rest_fits r words ≡ true) × AreRight free decls said (rest_parts r words) all) is last in (now.fitting ∙ end.0, now.behind all end.1)
 
 -- events are read as far as these are left, and one of those before asks for something or doesn't
 pub record AreSaidTo (free : Bool) (decls : List Decl) (all_words : List (List ℕ)) (before : List Arg) (words : List (List ℕ)) (said : List Arg) (asking : Bool) : Type 0 where

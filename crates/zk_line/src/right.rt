@@ -22,7 +22,6 @@ use zk_words::{
 /// Reads the words behind the first of a line, each cut and looked at once. Where all are right, the answer is true and
 /// the arguments are what they say, behind those that stood there. Where one isn't, `judge_words` says what speaks
 /// against it; a row with any number of names isn't read so.
-#[tactic(auto, using(crate::proofs::SaidWords::said_next, crate::proofs::SaidWords::said_last))]
 pub fn say_words(
     args: &mut Args,
     objects: &Objects,
@@ -84,7 +83,6 @@ fn say_rest(
 }
 
 /// Reads the events of a poll.
-#[tactic(auto, using(crate::proofs::SaidWords::events_next, crate::proofs::SaidWords::events_last))]
 #[inline(never)]
 fn say_events(
     args: &mut Args,
@@ -151,7 +149,7 @@ fn say_object(
 }
 
 /// An event of a poll.
-#[tactic(auto, using(crate::proofs::RightWords::ignore_says, crate::proofs::RightWords::known_event_says))]
+#[tactic(auto, using(crate::proofs::RightWords::ignore_says))]
 #[inline(never)]
 fn say_event(args: &mut Args, objects: &Objects, free: bool, word: &[u8]) -> Result<bool, NoMemory>
     requires { AreNames objects.now }
