@@ -1,17 +1,15 @@
 -- A line that makes a call, and is right in all, is taken.
-use Rattle.std.proofs.Common.{◌≡◌, ℕ, Bool, true, false, not, cond, ◌&&◌, ◌||◌, nat_le, nat_lt, List, [], ◌∷◌, Option, None, Some, Ok, is_some, refl, sym, ap, subst, ◌∙◌, arith}
+use Rattle.std.proofs.Common.{◌≡◌, ℕ, Bool, true, false, not, cond, ◌&&◌, ◌||◌, nat_le, nat_lt, List, [], None, Some, Ok, is_some, refl, sym, ap, subst, ◌∙◌, arith}
 use Rattle.std.specs.Prelude.{option_map, option_and_then}
 use Rattle.std.specs.List.{list_all}
 use Rattle.std.proofs.lemmas.Bool.{and_parts, and_from, leb-true, ltb-true, not-true}
 use Rattle.zk_words.specs.declared.line.Line.TheVariants.{Misspelled, Formed}
 use Rattle.zk_words.specs.declared.word.Word.{Word}
-use Rattle.zk_words.specs.declared.word.Head.{Head}
 use Rattle.zk_words.specs.declared.word.Head.TheVariants as head
-use Rattle.zk_words.specs.Lines.{head_of, line_behind, line_after, line_of_words, line_of, IsForm}
+use Rattle.zk_words.specs.Lines.{line_behind, IsForm}
 use Rattle.zk_words.specs.Parts.{Placed, fits, parts_of as placed_of}
-use Rattle.zk_words.specs.Pieces.{words_of}
 use Rattle.zk_words.specs.Spelled.{part_is_spelled}
-use Rattle.zk_words.specs.Table.{row_of, call_row}
+use Rattle.zk_words.specs.Table.{call_row}
 use Rattle.zk_line.specs.declared.types.Arg.{Arg}
 use Rattle.zk_line.specs.declared.types.Call.{Call}
 use Rattle.zk_line.specs.declared.types.Decl.{Decl}
@@ -54,26 +52,27 @@ right_call r w words decls free none args c may same loose empty right made =
     }
 
 module _ (r : Reading) (w : Word) (words : List (List ℕ)) (args : List Arg) (c : Call) (is : IsRightCall r w words args c) where
-  parts : List Placed
+  abbrev parts : List Placed
   parts = placed_of (call_row w).slots (call_row w).rest words
 
   said : args_of r.decls parts ≡ Some args
   said = is.right.saying ∙ ap Some (sym is.right.joined)
 
-  open_call : (not (is_barred r w) && nat_lt (call_count (all_scripts r)) MOST_CALLS) ≡ true
-  open_call = (and_parts (is_some r.current) _ is.may).1
+  unbarred : (is_some r.current && not (is_barred r w)) ≡ true
+  unbarred = (and_parts (is_some r.current && not (is_barred r w)) (nat_lt (call_count (all_scripts r)) MOST_CALLS) is.may).0
 
   -- a script is open
   pub inside : is_some r.current ≡ true
-  inside = (and_parts (is_some r.current) _ is.may).0
+  inside = (and_parts (is_some r.current) (not (is_barred r w)) unbarred).0
 
   placed_right : (not (is_some r.current) || is_barred r w) ≡ false
-  placed_right = ap (λ b. not b || is_barred r w) inside ∙ not-true (is_barred r w) (and_parts (not (is_barred r w)) _ open_call).0
+  placed_right =
+      ap (λ b. not b || is_barred r w) inside ∙ not-true (is_barred r w) (and_parts (is_some r.current) (not (is_barred r w)) unbarred).1
 
   within : is_past_limit r (head.Call w) parts ≡ false
   within =
-      ap (λ b. b || has_many_events parts) (few_calls (call_count (all_scripts r)) MOST_CALLS (and_parts (not (is_barred r w)) _ open_call).1)
-      ∙ few_events-call r.decls w words args c said is.made
+      let below = (and_parts (is_some r.current && not (is_barred r w)) (nat_lt (call_count (all_scripts r)) MOST_CALLS) is.may).1 in
+      ap (λ b. b || has_many_events parts) (few_calls (call_count (all_scripts r)) MOST_CALLS below) ∙ few_events-call r.decls w words args c said is.made
 
   ranged : are_in_range r.decls (head.Call w) parts ≡ true
   ranged = and_from (each_in_range (message_size r.decls parts) parts) (go_together (head.Call w) parts) is.right.in_range refl
@@ -100,7 +99,3 @@ module _ (r : Reading) (w : Word) (words : List (List ℕ)) (args : List Arg) (c
       let spelled : (fits (call_row w).slots (call_row w).rest words && list_all part_is_spelled parts) ≡ true = and_from (fits (call_row w).slots (call_row w).rest words) (list_all part_is_spelled parts) is.fitting is.right.spelled in
       let formed : line_behind (head.Call w) words ≡ Formed (head.Call w) parts = ap (λ b. cond b (Formed (head.Call w) parts) Misspelled) spelled in
       ap (taken r) formed ∙ ap (λ v. told v (after r (head.Call w) parts)) passes ∙ ap (told None) makes
-
--- a line by its first word and the others
-pub line_of-behind : (line first : List ℕ) (h : Head) (words : List (List ℕ)) → words_of line ≡ first ∷ words → head_of first ≡ Some h → line_of line ≡ line_behind h words
-line_of-behind line first h words cut found = ap line_of_words cut ∙ ap (λ o. line_after o words) found
