@@ -1,4 +1,5 @@
 pub mod ByName
+pub mod CallRows
 pub mod Choices
 pub mod Fits
 pub mod InRange
@@ -10,5 +11,7 @@ pub mod NeedsMet
 pub mod NeedsThere
 pub mod Options
 pub mod ReadTo
+pub mod RightWords
+pub mod SaidWords
 pub mod Spelled
 pub mod Tables

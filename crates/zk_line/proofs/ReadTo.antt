@@ -13,12 +13,8 @@ use Rattle.zk_line.specs.declared.types.Arg.{Arg}
 use Rattle.zk_line.specs.declared.types.Arg.TheVariants.{Bytes}
 use Rattle.zk_line.specs.Args.{arg_of, args_of}
 use Rattle.zk_line.specs.Checks.{size_named, size_said, message_size, is_in_range, each_in_range, is_well_named, each_well_named}
+use Rattle.zk_line.specs.Right.{size_with}
 use Rattle.zk_line.specs.Weights.{Weighs}
-
--- the size of a line's messages, where its first words say these and the others follow
-abbrev pub size_with : List Decl → List Arg → List Placed → Option ℕ
-size_with decls [] parts = message_size decls parts
-size_with decls (arg ∷ args) parts = size_named decls arg
 
 no_size : (decls : List Decl) (message : Option (List ℕ)) → option_and_then (size_named decls) (option_map Bytes message) ≡ None
 no_size decls None = refl
@@ -45,7 +41,7 @@ pub in_range_next : (decls : List Decl) (args : List Arg) (s : Slot) (word : Lis
 in_range_next decls [] s word parts = first_in_range decls s word
 in_range_next decls (arg ∷ args) s word parts = refl
 
-size_next : (decls : List Decl) (args : List Arg) (arg : Arg) (s : Slot) (word : List ℕ) (parts : List Placed) → arg_of decls s word ≡ Some arg
+pub size_next : (decls : List Decl) (args : List Arg) (arg : Arg) (s : Slot) (word : List ℕ) (parts : List Placed) → arg_of decls s word ≡ Some arg
     → size_with decls (args ++ arg ∷ []) parts ≡ size_with decls args (placed s word ∷ parts)
 size_next decls [] arg s word parts said = sym (ap (option_and_then (size_named decls)) said)
 size_next decls (first ∷ args) arg s word parts said = refl

@@ -8,6 +8,7 @@ pub mod Filling
 pub mod Fits
 pub mod Needs
 pub mod Objects
+pub mod Right
 pub mod Shapes
 pub mod Text
 pub mod Weights

@@ -2,18 +2,14 @@ ghost use Rattle.std.specs.Prelude.{◌≡◌, [], ◌∷◌, ◌++◌, OnOk, On
 
 use crate::events::Event;
 use crate::types::{Arg, Ref};
-use smallvec::SmallVec;
 use std::alloc::Global;
 use std::marker::Model;
-use zk_base::NoMemory;
+use zk_base::{NoMemory, make_room_for_one, push_within};
 
-/// How many words of a line take no memory.
-const FEW: usize = 3;
-
-/// What the words of a line say, in order. Few of them take no memory.
+/// What the words of a line say, in order.
 #[derive(Drop)]
 pub struct Args {
-    args: SmallVec<Arg, FEW>,
+    args: Vec<Arg>,
 }
 
 impl Model for Args {
@@ -31,7 +27,7 @@ impl Args {
         ensures { result ≡ [] }
     {
         Args {
-            args: SmallVec::new(alloc),
+            args: Vec::new(alloc),
         }
     }
 
@@ -46,7 +42,7 @@ impl Args {
     pub fn items(&self) -> &[Arg]
         ensures { result.now ≡ self.now }
     {
-        self.args.as_slice()
+        &self.args
     }
 
     /// One more at the end.
@@ -55,7 +51,8 @@ impl Args {
         ensures unchanged { OnErr result (self.new ≡ self.old) }
     {
         let _known: Option<(Ref, Event)> = None;
-        self.args.push(arg)?;
+        make_room_for_one(&mut self.args)?;
+        push_within(&mut self.args, arg);
         Ok(())
     }
 }

@@ -77,7 +77,7 @@ fn misnamed(in_range: bool) -> Wrong
 }
 
 /// What a word is worth in its slot, behind those that say these.
-fn arg_in_slot(
+pub fn arg_in_slot(
     objects: &Objects,
     free: bool,
     said: &[Arg],
@@ -216,7 +216,7 @@ fn priority(word: &[u8]) -> Result<Arg, Wrong>
 }
 
 /// How many bytes a message has behind words that say these.
-fn size_said(objects: &Objects, said: &[Arg]) -> Option<usize>
+pub fn size_said(objects: &Objects, said: &[Arg]) -> Option<usize>
     ensures { result ≡ size_said objects.now said.now }
 {
     match said {
@@ -225,7 +225,8 @@ fn size_said(objects: &Objects, said: &[Arg]) -> Option<usize>
     }
 }
 
-fn message(size: Option<usize>, word: &[u8]) -> Result<Arg, Wrong>
+/// The message that hexadecimal digits spell, where it isn't too long, and of the size that is asked for, if one is.
+pub fn message(size: Option<usize>, word: &[u8]) -> Result<Arg, Wrong>
     requires { is_hex word.now ≡ true }
     ensures { Weighs (hex_in_range size word.now) true (option_map Arg.Bytes (msg_of word.now)) result }
 {

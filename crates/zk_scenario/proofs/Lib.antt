@@ -6,6 +6,7 @@ pub mod Named
 pub mod PairKeys
 pub mod ReadIsValid
 pub mod ReadText
+pub mod RightCalls
 pub mod Room
 pub mod ScenarioLines
 pub mod ScriptTables

@@ -40,6 +40,11 @@ is_within test r = option_map_or (λ script. is_at test r.decls script.owner) r.
 abbrev pub is_barred : Reading → Word → Bool
 is_barred r word = forbids_call (next_is_free r) (is_within is_listener r) (is_within is_item r) word
 
+-- whether a call may be the next line, whatever stands behind its word: a script is open, the call isn't barred there,
+-- and there may be one more
+abbrev pub may_call : Reading → Word → Bool
+may_call r word = is_some r.current && not (is_barred r word) && nat_lt (call_count (all_scripts r)) MOST_CALLS
+
 -- whether the line may not stand there: declarations and permissions stand before all scripts, calls and ends in one
 -- where they aren't barred, and a script's head outside of each, once for an object
 abbrev pub is_misplaced : Reading → Head → List Placed → Bool

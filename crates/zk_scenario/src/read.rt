@@ -8,7 +8,7 @@ use crate::reader::Reader;
 use crate::refused::{ScenarioRefused, Why};
 use crate::scenario::Scenario;
 use std::alloc::Global;
-use zk_line::Args;
+use zk_line::{Args, Call};
 use zk_words::Lines;
 
 /// Reads a scenario from its text.
@@ -57,10 +57,11 @@ fn read_lines<'a>(
 {
     let mut reader = Reader::new(alloc);
     let mut args = Args::new(alloc);
+    let mut room = Call::User;
     let mut number = 2;
     let mut piece = first;
     while let Some(next) = lines.next() {
-        if let Some(reason) = reader.read_line(alloc, &mut args, piece)? {
+        if let Some(reason) = reader.read_line(alloc, &mut args, &mut room, piece)? {
             return Err(ScenarioRefused::At(number, reason));
         }
         piece = next;

@@ -1,13 +1,14 @@
-ghost use Rattle.std.specs.Prelude.{◌≡◌, None, Some, OnOk, OnErr, IfOk, IsSome, is_some, [], option_map, option_and_then};
-ghost use Rattle.zk_words.specs.Lines.{line_of, IsForm};
+ghost use Rattle.std.specs.Prelude.{◌≡◌, true, false, None, Some, Ok, OnOk, OnErr, IfOk, IsSome, is_some, [], option_map, option_and_then};
+ghost use Rattle.zk_words.specs.declared.word.Head.TheVariants as head;
+ghost use Rattle.zk_words.specs.Lines.{line_behind, line_of, IsForm};
 ghost use Rattle.zk_line.specs.Args.{args_of};
 ghost use Rattle.zk_line.specs.Objects.{object_of, name_of, is_item, is_listener};
 ghost use Rattle.zk_line.specs.Weights.{or_wrong};
-ghost use Rattle.zk_scenario.specs.Grammar.{read_line, told, answered, accepted};
+ghost use Rattle.zk_scenario.specs.Grammar.{read_line, taken, told, answered, accepted};
 ghost use Rattle.zk_scenario.specs.Free.{next_is_free, is_free_line};
 ghost use Rattle.zk_scenario.specs.Reading.{start, declared, permitted, called, closed, with_call, parts_of};
 ghost use Rattle.zk_scenario.specs.Valid.{IsValid, is_supervisors, makes_user};
-ghost use Rattle.zk_scenario.specs.Verdict.{has_begun, has_script, is_within, is_barred, is_misplaced, most, is_full, is_past_limit, is_said_before, verdict, Judges, opened, after};
+ghost use Rattle.zk_scenario.specs.Verdict.{has_begun, has_script, is_within, is_barred, may_call, is_misplaced, most, is_full, is_past_limit, is_said_before, verdict, Judges, opened, after};
 
 use crate::limits::{
     MOST_CALLS, MOST_CHANS, MOST_ITEMS, MOST_MSGQS, MOST_OBSERVERS, MOST_QUEUES, MOST_SEMS,
@@ -23,9 +24,9 @@ use zk_base::{Listed, MOST_PLAYERS, NoMemory, make_room_for_one, push_within};
 use zk_line::{
     Arg, Args, Call, Decl, Declared, Objects, Ref, Wrong, call_of, decl_of, first_object,
     has_many_events, has_many_observers, is_item_at, is_listener_at, is_user_at, is_user_call,
-    judge_words, permission_of,
+    judge_words, permission_of, put_call_of, say_words,
 };
-use zk_words::{Head, Kind, Line, Parts, Word, line_of, makes_player};
+use zk_words::{Head, Kind, Line, Parts, Word, Words, call_row, head_of, line_of, makes_player};
 
 /// What the lines read so far said.
 #[derive(Drop)]
@@ -139,6 +140,13 @@ impl Reader {
             || makes_user(word) && self.is_within_item()
     }
 
+    /// Whether a call may be the next line, whatever stands behind its word.
+    fn may_call(&self, word: Word) -> bool
+        ensures { result ≡ may_call self.now word }
+    {
+        self.current.is_some() && !self.is_barred(word) && self.calls < MOST_CALLS
+    }
+
     /// Whether the line may not stand there.
     fn is_misplaced(&self, head: Head, parts: &Parts<'_>) -> bool
         ensures { result ≡ is_misplaced self.now head parts.now }
@@ -214,8 +222,70 @@ impl Reader {
     }
 
     /// Reads a line without its line feed. The answer is the reason why it is refused, if it is. The arguments
-    /// are room for what its words say: what stood there is lost.
+    /// and the call are room for what its words say: what stood there is lost.
     pub fn read_line(
+        &mut self,
+        alloc: Global,
+        args: &mut Args,
+        room: &mut Call,
+        line: &[u8],
+    ) -> Result<Option<Why>, NoMemory>
+        ensures { IfOk result (λ refusal. read_line self.old line.now ≡ answered refusal self.new) }
+    {
+        if self.read_call(args, room, line)? {
+            Ok(None)
+        } else {
+            let refusal = self.weigh_line(alloc, args, line)?;
+            Ok(refusal)
+        }
+    }
+
+    /// Reads a line that makes a call, each of its words looked at once. The answer is whether it is taken; where it isn't,
+    /// it is another line, or a reason speaks against it.
+    fn read_call(&mut self, args: &mut Args, room: &mut Call, line: &[u8]) -> Result<bool, NoMemory>
+        ensures taken { IfOk result (λ done. done ≡ true → read_line self.old line.now ≡ Ok self.new) }
+        ensures unchanged { IfOk result (λ done. done ≡ false → self.new ≡ self.old) }
+    {
+        let mut words = Words::of(line);
+        let Some(first) = words.next() else {
+            return Ok(false);
+        };
+        let Some(Head::Call(word)) = head_of(first) else {
+            return Ok(false);
+        };
+        let done = self.read_call_of(args, room, word, words)?;
+        Ok(done)
+    }
+
+    /// Reads the words behind the first of a call.
+    fn read_call_of(
+        &mut self,
+        args: &mut Args,
+        room: &mut Call,
+        word: Word,
+        words: Words<'_>,
+    ) -> Result<bool, NoMemory>
+        ensures taken { IfOk result (λ done. done ≡ true
+            → taken self.old (line_behind (head.Call word) words.entry) ≡ Ok self.new) }
+        ensures unchanged { IfOk result (λ done. done ≡ false → self.new ≡ self.old) }
+    {
+        if !self.may_call(word) {
+            return Ok(false);
+        }
+        args.clear();
+        let free = self.next_is_free();
+        if !say_words(args, &self.objects, free, &call_row(word), words)? {
+            return Ok(false);
+        }
+        if !put_call_of(room, word, args.items()) {
+            return Ok(false);
+        }
+        self.call(room)?;
+        Ok(true)
+    }
+
+    /// Reads a line by the first reason that applies to it.
+    fn weigh_line(
         &mut self,
         alloc: Global,
         args: &mut Args,
@@ -358,7 +428,7 @@ impl Reader {
         let Some(call) = call_of(word, args) else {
             return Ok(false);
         };
-        self.call(call)?;
+        self.call(&call)?;
         Ok(true)
     }
 
@@ -403,15 +473,15 @@ impl Reader {
     }
 
     /// One call more in the open script.
-    fn call(&mut self, call: Call) -> Result<(), NoMemory>
+    fn call(&mut self, call: &Call) -> Result<(), NoMemory>
         requires inside { IsSome self.old.current }
-        requires valid { IsValid (parts_of (called self.old call)) }
-        ensures ok { OnOk result (self.new ≡ called self.old call) }
+        requires valid { IsValid (parts_of (called self.old call.now)) }
+        ensures ok { OnOk result (self.new ≡ called self.old call.now) }
         ensures unchanged { OnErr result (self.new ≡ self.old) }
     {
         push_call(&mut self.current, call)?;
         self.calls += 1;
-        self.free = self.free || is_user_call(&call);
+        self.free = self.free || is_user_call(call);
         Ok(())
     }
 
@@ -455,13 +525,13 @@ fn most(kind: Kind) -> usize
 }
 
 /// One call more in the script, if there is one.
-fn push_call(current: &mut Option<Script>, call: Call) -> Result<(), NoMemory>
-    ensures ok { OnOk result (current.new ≡ option_map (with_call call) current.old) }
+fn push_call(current: &mut Option<Script>, call: &Call) -> Result<(), NoMemory>
+    ensures ok { OnOk result (current.new ≡ option_map (with_call call.now) current.old) }
     ensures unchanged { OnErr result (current.new ≡ current.old) }
 {
     let _known: Option<Ref> = None;
     match current {
-        Some(script) => script.calls.push(call),
+        Some(script) => script.calls.push(*call),
         None => Ok(()),
     }
 }

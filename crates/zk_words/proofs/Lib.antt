@@ -1,5 +1,7 @@
+pub mod Begins
 pub mod FirstPiece
 pub mod Formed
+pub mod Heads
 pub mod HexText
 pub mod Numerals
 pub mod Placed

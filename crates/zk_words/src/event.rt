@@ -1,6 +1,7 @@
 ghost use Rattle.std.specs.Prelude.{◌≡◌, None, Some, true, false, length, drop, MatchOption};
 ghost use Rattle.zk_words.specs.Events.{begins, event_named, is_event, is_ignore, need_of, source_text};
 
+use crate::matching::is_same;
 use zk_base::{Need, is_spelled};
 
 /// What a poll can wait for.
@@ -47,7 +48,7 @@ pub fn need_of(source: Source) -> Need
 pub fn is_ignore(word: &[u8]) -> bool
     ensures { result ≡ is_ignore word.now }
 {
-    word == b"ignore".as_slice()
+    is_same(word, b"ignore")
 }
 
 /// What a word asks for as an event, be the name spelled as a name or not.
@@ -75,11 +76,18 @@ pub fn event_named(word: &[u8]) -> Option<Asked<'_>>
 }
 
 /// What stands behind a front, if the word begins with it.
+#[inline(always)]
+#[tactic(auto, using(crate::proofs::Begins::begins_short))]
 pub fn behind<'a>(front: &[u8], word: &'a [u8]) -> Option<&'a [u8]>
     ensures { MatchOption result (begins front.now word.now ≡ false)
         (λ rest. (begins front.now word.now ≡ true) × (rest.now ≡ drop (length front.now) word.now)) }
 {
-    word.strip_prefix(front)
+    let (first, rest) = word.split_at_checked(front.len())?;
+    if is_same(first, front) {
+        Some(rest)
+    } else {
+        None
+    }
 }
 
 /// Whether a word is spelled as an event.

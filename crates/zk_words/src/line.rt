@@ -1,10 +1,11 @@
 ghost use Rattle.std.specs.Prelude.{◌≡◌};
 ghost use Rattle.zk_words.specs.Lines.{line_behind, line_of};
 
+use crate::first::head_of;
 use crate::parts::Parts;
 use crate::pieces::Words;
 use crate::spelled::are_spelled;
-use crate::table::{head_of, row_of};
+use crate::table::row_of;
 use crate::word::Head;
 
 /// One line of a scenario behind the first, by its spelling alone.

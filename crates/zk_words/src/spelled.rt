@@ -115,7 +115,8 @@ fn are_events(words: Words<'_>) -> bool
     true
 }
 
-fn is_spelled_in(slot: Slot, word: &[u8]) -> bool
+/// Whether a word is spelled as its slot asks.
+pub fn is_spelled_in(slot: Slot, word: &[u8]) -> bool
     ensures { result ≡ is_spelled_in slot word.now }
 {
     match slot {

@@ -140,7 +140,8 @@ fn kind_row(kind: Kind) -> Row
     }
 }
 
-fn call_row(word: Word) -> Row
+/// The form of the line of a call.
+pub fn call_row(word: Word) -> Row
     ensures { result ≡ call_row word }
 {
     match word {
@@ -200,8 +201,8 @@ macro_rules! return_first {
     };
 }
 
-/// The head of the line that this word begins.
-pub fn head_of(first: &[u8]) -> Option<Head>
+/// The head of the line that this word begins, looked for among all of them.
+pub fn head_among(first: &[u8]) -> Option<Head>
     ensures { result ≡ head_of first.now }
 {
     return_first!(

@@ -2,6 +2,7 @@ ghost use Rattle.std.specs.Prelude.{◌≡◌};
 ghost use Rattle.zk_words.specs.Timeouts.{is_wait, wait_of};
 
 use crate::limits::MOST_TICKS;
+use crate::matching::is_same;
 use crate::numbers::{is_number, number_in};
 
 /// How long a call waits.
@@ -19,16 +20,16 @@ pub enum Timeout {
 pub fn is_wait(word: &[u8]) -> bool
     ensures { result ≡ is_wait word.now }
 {
-    word == b"no".as_slice() || word == b"forever".as_slice() || is_number(word)
+    is_same(word, b"no") || is_same(word, b"forever") || is_number(word)
 }
 
 /// How long a word says that a call waits.
 pub fn wait_of(word: &[u8]) -> Option<Timeout>
     ensures { result ≡ wait_of word.now }
 {
-    if word == b"no".as_slice() {
+    if is_same(word, b"no") {
         Some(Timeout::No)
-    } else if word == b"forever".as_slice() {
+    } else if is_same(word, b"forever") {
         Some(Timeout::Forever)
     } else {
         number_in(1, MOST_TICKS, word).map(Timeout::Ticks)
