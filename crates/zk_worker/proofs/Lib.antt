@@ -1,6 +1,7 @@
 pub mod DeclaredObjects
 pub mod Lists
 pub mod Moving
+pub mod PollMoves
 pub mod CheckedSteps
 pub mod Limits
 pub mod Starts

@@ -7,9 +7,7 @@ ghost use Rattle.zk_worker.specs.Polls.{mark_of, is_watch, watched_from, event_o
 
 use crate::moves::answer_call;
 use crate::refs::ref_object;
-use crate::{
-    Alarm, Answer, Answered, Mark, Moved, Positions, Stage, Step, StepReply, Word,
-};
+use crate::{Alarm, Answer, Answered, Mark, Moved, Positions, Stage, Step, StepReply, Word};
 use zk_base::Errno;
 use zk_line::{Event, Events, MOST_EVENTS};
 use zk_model_wait::{ClockOp, ClockReply, MsgqOp, MsgqReply, SemOp, SemReply};
@@ -400,18 +398,24 @@ fn asks_on(unasked: Option<usize>, events: &[Event], marks: &[Mark; MOST_EVENTS]
     }
 }
 
+/// Sets the mark at a place.
+fn mark_at(marks: &mut [Mark; MOST_EVENTS], place: Option<usize>, mark: Mark)
+    ensures { marks.new ≡ marked marks.old place mark }
+{
+    if let Some(place) = place {
+        if place < MOST_EVENTS {
+            marks[place] = mark;
+        }
+    }
+}
+
 /// Sets a mark of a poll, if there is one at this place.
 fn put_mark(stage: &mut Stage, place: Option<usize>, mark: Mark)
     ensures { (alarm : Alarm) (marks : List Mark) → stage.old ≡ Stage.Polls alarm marks →
         stage.new ≡ Stage.Polls alarm (marked marks place mark) }
 {
-    let Some(place) = place else {
-        return;
-    };
     if let Stage::Polls(_, marks) = stage {
-        if place < MOST_EVENTS {
-            marks[place] = mark;
-        }
+        mark_at(marks, place, mark);
     }
 }
 
