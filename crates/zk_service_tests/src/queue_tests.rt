@@ -154,7 +154,9 @@ fn random_histories(rt: HostRuntime) -> Result<(), Fail> {
     for history in 0..10_000 {
         let mut seed = history;
         let mut beside = Beside::new(rt.alloc())?;
-        for _ in 0..40 {
+        // Most are short, and each fiftieth is long enough for rings that are closed up.
+        let steps = if history % 50 == 0 { 200 } else { 5 };
+        for _ in 0..steps {
             beside.step(&rt, &mut seed)?;
         }
     }

@@ -226,6 +226,11 @@ fn names_what_is_there(op: WorkOp) -> bool
     }
 }
 
+/// Whether this is what an attempt is answered that isn't possible.
+fn is_impossible(wanted: &str) -> bool {
+    wanted == "None"
+}
+
 /// The service and its plain machine, with three items, a started queue and one that is off, whose workers are the players 2
 /// and 3; and the number of the next step.
 #[derive(Drop)]
@@ -289,14 +294,15 @@ impl Tried {
     fn has_kept(&self, alloc: Global, rows: &[WorkRow]) -> Result<bool, NoMemory> {
         let mut kept = self.work.history().iter();
         for (_, _, wanted) in rows {
-            if *wanted != "None" {
-                let Some(entry) = kept.next() else {
-                    return Ok(false);
-                };
-                let text = format!(in alloc; "Some({:?})", entry.reply)?;
-                if text.as_str() != *wanted {
-                    return Ok(false);
-                }
+            if is_impossible(wanted) {
+                continue;
+            }
+            let Some(entry) = kept.next() else {
+                return Ok(false);
+            };
+            let text = format!(in alloc; "Some({:?})", entry.reply)?;
+            if text.as_str() != *wanted {
+                return Ok(false);
             }
         }
         Ok(kept.next().is_none())
