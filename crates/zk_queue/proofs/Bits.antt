@@ -1,9 +1,9 @@
 -- The bits of a word of busy flags, by trying all 32 words.
-use Rattle.std.proofs.Common.{◌≡◌, ℕ, ◌-◌, ◌^◌, Bool, true, false, ◌&&◌, eqb, ◌==◌, refl, sym, ap, ◌∙◌}
+use Rattle.std.proofs.Common.{◌≡◌, ℕ, ◌-◌, ◌^◌, Bool, true, false, ◌&&◌, eqb, ◌==◌, refl, ap, ◌∙◌}
 use Rattle.std.specs.Int.RustNames.{bit_and, bit_or}
 use Rattle.std.proofs.lemmas.Bool.{eqb-true, and_parts}
 use Rattle.zk_model_work.specs.Questions.{weight, busy_flags}
-use Rattle.zk_queue.specs.Open.{ItemMarks, marks_in}
+use Rattle.zk_queue.specs.Open.{marks_in}
 use Rattle.zk_queue.specs.Words.{has_flag}
 
 -- a test that holds of both

@@ -15,7 +15,7 @@ use Rattle.zk_model_work.specs.Lists.{first}
 use Rattle.zk_queue.specs.Open as opened
 use Rattle.zk_queue.specs.Open.{begun, begin, end, if_free, Open, ItemMarks, marks_in, unmarked, nothing_open, marks_of, is_run_of, is_running, is_queued, flags, mark}
 use Rattle.zk_queue.specs.Words.{has_flag, numbers, open_of, IsWord, AreKept}
-use Rattle.zk_queue.proofs.Bits.{flag-running, flag-cancelling, flag-queued, flag-delayed, flag-flushing, queued-on, queued-off, running-on, running-off, marks-in}
+use Rattle.zk_queue.proofs.Bits.{flag-running, flag-queued, queued-on, queued-off, running-on, running-off, marks-in}
 
 -- the word of an item as a number
 abbrev pub word_at : List BusyFlags → ℕ → ℕ

@@ -1,9 +1,9 @@
 -- Positions in a ring, which wrap: an entry is found at its position whatever comes and goes beside it.
 use Rattle.std.proofs.Common.{◌≡◌, ◌≢◌, ℕ, zero, suc, ◌+◌, ◌-◌, ◌*◌, ◌/◌, ◌%◌, ◌^◌, ◌<◌, ◌≤◌, true, false, eqb, leb, Option, Some, None, is_some, List, [], ◌∷◌, ◌++◌, length, get_or, set, refl, sym, ap, ◌∙◌, ◌⊎◌, inl, inr, arith}
-use Rattle.std.proofs.Math.Nat.{mod-eq_of_lt, add-mod_left, add-mod_right, mod_self, mod-add-div, mul-add-mod_self_left}
+use Rattle.std.proofs.Math.Nat.{mod-eq_of_lt, add-mod_right, mod_self, mod-add-div, mul-add-mod_self_left}
 use Rattle.std.proofs.lemmas.Nat.{mod_below}
 use Rattle.std.proofs.lemmas.Bool.Decides.{eqb_tells, leb_tells}
-use Rattle.std.proofs.lemmas.List.{get_or_append_left, get_or_past, get_or_push, get_or-set_same, get_or-set_other}
+use Rattle.std.proofs.lemmas.List.{get_or_append_left, get_or_past, get_or-set_other}
 use Rattle.zk_queue.specs.declared.ticket.Ticket.{Ticket}
 use Rattle.zk_queue.specs.Ring.{RingView, index_at, entry_at, KeepsBut}
 

@@ -1,7 +1,7 @@
-use Rattle.std.proofs.Common.{◌≡◌, ℕ, ◌+◌, ◌-◌, ◌<◌, ◌≤◌, All, Option, List, Some, length, map, refl, sym, ap, subst, ◌∙◌, arith}
+use Rattle.std.proofs.Common.{◌≡◌, ℕ, ◌-◌, All, Option, List, Some, length, map, refl, sym, ap, subst, ◌∙◌, arith}
 use Rattle.zk_queue.specs.declared.ticket.Ticket.{Ticket}
 use Rattle.zk_queue.specs.Places.{IsHome}
-use Rattle.zk_queue.specs.Ring.{living, turned}
+use Rattle.zk_queue.specs.Ring.{living}
 use Rattle.zk_queue.proofs.Keeping.{leaves-all, leaves-both, homes-turned, homes-left}
 use Rattle.zk_queue.proofs.Lives.{turns, turns-all, turns-next, length-turned}
 use Rattle.zk_queue.proofs.close_up.close_up.Goals as goal

@@ -1,4 +1,4 @@
-use Rattle.std.proofs.Common.{◌≡◌, ◌*◌, ◌≤◌, Some, List, length, map, ap, ◌∙◌, arith}
+use Rattle.std.proofs.Common.{Some, length, ap, ◌∙◌, arith}
 use Rattle.std.proofs.lemmas.List.{length-map}
 use Rattle.zk_queue.specs.declared.ticket.Ticket.{Ticket}
 use Rattle.zk_queue.specs.Ring.{living}

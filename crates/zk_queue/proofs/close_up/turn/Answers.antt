@@ -1,10 +1,6 @@
-use Rattle.std.proofs.Common.{◌≡◌, ◌<◌, Option, Some, None, List, ◌∷◌, length, All, refl, sym, ap, subst, ◌∙◌, arith}
-use Rattle.std.proofs.lemmas.List.{length-map}
-use Rattle.std.proofs.lemmas.List.Elements.{All-head}
-use Rattle.zk_queue.specs.declared.place.Place.{Place}
+use Rattle.std.proofs.Common.{◌≡◌, Option, Some, None, ◌∷◌, refl, sym, ap, subst, ◌∙◌}
 use Rattle.zk_queue.specs.declared.ticket.Ticket.{Ticket}
-use Rattle.zk_queue.specs.Places.{homes_of, IsHome, StandsIn}
-use Rattle.zk_queue.specs.Ring.{RingView, living, KeepsBut}
+use Rattle.zk_queue.specs.Ring.{KeepsBut}
 use Rattle.zk_queue.proofs.Keeping.{Standing, StandsIn-moved, leaves-set, first-home, home-within}
 use Rattle.zk_queue.proofs.Positions.{KeepsBut-after}
 use Rattle.zk_queue.proofs.close_up.turn.Goals as goal

@@ -1,10 +1,9 @@
-use Rattle.std.proofs.Common.{◌≡◌, ◌<◌, ◌-◌, ◌^◌, Option, Some, None, List, length, map, set, get_or, refl, sym, ap, subst, ◌∙◌, arith}
+use Rattle.std.proofs.Common.{◌≡◌, ◌<◌, ◌-◌, ◌^◌, Option, Some, None, List, length, map, set, get_or, sym, ap, subst, ◌∙◌, arith}
 use Rattle.std.specs.Int.RustNames.{bit_and, bit_or}
 use Rattle.std.specs.Option.{IfSome, option_map_or}
 use Rattle.std.proofs.lemmas.List.{length-set, length-map, get_or_default}
-use Rattle.zk_model_work.specs.Lists.{first}
 use Rattle.zk_queue.specs.declared.ticket.Ticket.{Ticket}
-use Rattle.zk_queue.specs.Line.{InLine, without, number_among}
+use Rattle.zk_queue.specs.Line.{without, number_among}
 use Rattle.zk_queue.specs.Open.{Open, begin}
 use Rattle.zk_queue.proofs.Flagged.{Flagged, word-read, flagged-begin, marks-begin, are-kept, known-begin, none-runs, seen-begin}
 use Rattle.zk_queue.proofs.queues.Queues.begin.Goals as goal

@@ -1,4 +1,3 @@
-use Rattle.std.proofs.Common.{refl, ◌∙◌}
 use Rattle.zk_queue.proofs.Flagged.{kept-fresh}
 use Rattle.zk_queue.proofs.queues.Queues.new.Goals as goal
 

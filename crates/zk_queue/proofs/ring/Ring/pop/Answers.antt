@@ -1,9 +1,8 @@
-use Rattle.std.proofs.Common.{◌≡◌, ℕ, ◌+◌, ◌<◌, Option, None, [], length, refl, sym, ap, subst, ◌∙◌, arith}
-use Rattle.zk_model_work.specs.Lists.{first}
+use Rattle.std.proofs.Common.{Option, None, length, refl, sym, ap, subst, ◌∙◌, arith}
 use Rattle.zk_queue.specs.declared.ticket.Ticket.{Ticket}
-use Rattle.zk_queue.specs.Ring.{RingView, living, KeepsBut}
+use Rattle.zk_queue.specs.Ring.{KeepsBut}
 use Rattle.zk_queue.proofs.Positions.{KeepsBut-refl, KeepsBut-trans}
-use Rattle.zk_queue.proofs.Lives.{pop-leaves, pop-skips, none-living}
+use Rattle.zk_queue.proofs.Lives.{pop-skips}
 use Rattle.zk_queue.proofs.ring.Ring.pop.Goals as goal
 
 pub loop-init : goal.loop-init

@@ -1,4 +1,4 @@
-use Rattle.std.proofs.Common.{◌≡◌, ◌≤◌, not, ap, ◌∙◌, arith}
+use Rattle.std.proofs.Common.{not, ap, ◌∙◌, arith}
 use Rattle.zk_queue.proofs.Lives.{count-pop_dead}
 use Rattle.zk_queue.proofs.ring.Ring.pop_entry.Goals as goal
 

@@ -1,7 +1,7 @@
-use Rattle.std.proofs.Common.{◌≡◌, ℕ, ◌+◌, ◌%◌, ◌^◌, ◌<◌, Option, Some, None, List, [], ◌∷◌, ◌++◌, length, get_or, refl, sym, ap, ◌∙◌, arith}
+use Rattle.std.proofs.Common.{◌≡◌, ℕ, ◌+◌, ◌%◌, ◌^◌, Option, Some, None, List, [], ◌∷◌, ◌++◌, length, get_or, refl, ap, ◌∙◌, arith}
 use Rattle.std.proofs.lemmas.List.{get_or_push, length_push}
 use Rattle.zk_queue.specs.declared.ticket.Ticket.{Ticket}
-use Rattle.zk_queue.specs.Ring.{RingView, living, index_at, entry_at}
+use Rattle.zk_queue.specs.Ring.{RingView, living, index_at}
 use Rattle.zk_queue.proofs.Positions.{index-end, KeepsBut-push}
 use Rattle.zk_queue.proofs.Lives.{length-push}
 use Rattle.zk_queue.proofs.ring.Ring.push.Goals as goal

@@ -1,11 +1,9 @@
-use Rattle.std.proofs.Common.{◌≡◌, List, Option, Some, None, [], ◌∷◌, ◌++◌, length, map, get_or, set, All, option_to_list, sym, ap, subst, ◌∙◌, ◌<◌, arith}
-use Rattle.std.proofs.lemmas.List.{length-map}
+use Rattle.std.proofs.Common.{Option, ◌++◌, map, All, option_to_list, sym, ap, subst, ◌∙◌, ◌<◌, arith}
 use Rattle.std.specs.Option.{option_map_or}
 use Rattle.zk_model_work.specs.Lists.{first}
 use Rattle.zk_queue.specs.declared.ticket.Ticket.{Ticket}
 use Rattle.zk_queue.specs.Line.{InLine, without}
-use Rattle.zk_queue.specs.Places.{lines_of}
-use Rattle.zk_queue.specs.Ring.{RingView, living, KeepsBut}
+use Rattle.zk_queue.specs.Ring.{living, KeepsBut}
 use Rattle.zk_queue.proofs.Keeping.{begins, begins_line, begins_kept, begins_next, lowest, skips_kept, skips_next, line-set, gone}
 use Rattle.zk_queue.proofs.waiting.Waiting.begin.Goals as goal
 

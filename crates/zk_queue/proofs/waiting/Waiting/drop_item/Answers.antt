@@ -1,6 +1,4 @@
-use Rattle.std.proofs.Common.{◌≡◌, List, Some, None, option_map, sym, ap, ◌∙◌, arith}
-use Rattle.zk_queue.specs.declared.ticket.Ticket.{Ticket}
-use Rattle.zk_queue.specs.Line.{InLine, number_among}
+use Rattle.std.proofs.Common.{sym, ◌∙◌, arith}
 use Rattle.zk_queue.proofs.Keeping.{drops_none, drops, drops_some, drops_kept, drops_next, number_at, gone}
 use Rattle.zk_queue.proofs.waiting.Waiting.drop_item.Goals as goal
 

@@ -1,7 +1,5 @@
-use Rattle.std.proofs.Common.{List, length, map, sym, ap, ◌==◌, ◌∙◌, arith}
-use Rattle.std.proofs.lemmas.List.{length-map}
+use Rattle.std.proofs.Common.{List, length, ap, ◌==◌, ◌∙◌}
 use Rattle.zk_queue.specs.declared.ticket.Ticket.{Ticket}
-use Rattle.zk_queue.specs.Line.{InLine}
 use Rattle.zk_queue.proofs.Keeping.{begins, begins_line}
 use Rattle.zk_queue.proofs.waiting.Waiting.is_empty.Goals as goal
 

@@ -1,4 +1,4 @@
-use Rattle.std.proofs.Common.{◌≡◌, None, Some, option_map, sym, ap, ◌∙◌, arith}
+use Rattle.std.proofs.Common.{◌≡◌, None, option_map, sym, ap, ◌∙◌, arith}
 use Rattle.zk_queue.specs.declared.ticket.Ticket.{Ticket}
 use Rattle.zk_queue.specs.Line.{number_among}
 use Rattle.zk_queue.proofs.Keeping.{drops_none, drops, number_at}
