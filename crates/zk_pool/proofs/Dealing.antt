@@ -1,5 +1,5 @@
 -- Passes that are made keep the rule of a pool.
-use Rattle.std.proofs.Common.{◌≡◌, ℕ, ◌+◌, ◌-◌, ◌<◌, List, [], refl, ap, ◌∙◌, arith}
+use Rattle.std.proofs.Common.{◌≡◌, ℕ, ◌+◌, ◌<◌, refl, ap, ◌∙◌, arith}
 use Rattle.crossbeam_queue.specs.Fifo.{Forks}
 use Rattle.zk_pool.specs.declared.views.View.{View}
 use Rattle.zk_pool.specs.Rule.{PoolStands}

@@ -1,6 +1,6 @@
 -- A new pool stands, and each item of `new` that goes in keeps its rule.
-use Rattle.std.proofs.Common.{◌≡◌, ◌⊎◌, inl, inr, ⊎_elim, true≢false, is_some, ℕ, zero, suc, ◌+◌, ◌<◌, Option, Some, None, List, [], ◌∷◌, ◌++◌, length, map, reverse, set, All, refl, sym, ap, subst, ◌∙◌, arith}
-use Rattle.std.proofs.lemmas.List.{length-append, map-append, reverse-append}
+use Rattle.std.proofs.Common.{◌≡◌, ◌⊎◌, inl, inr, ⊎_elim, true≢false, is_some, ℕ, zero, suc, ◌<◌, Option, Some, None, List, [], ◌∷◌, ◌++◌, map, reverse, refl, sym, ap, subst, ◌∙◌, arith}
+use Rattle.std.proofs.lemmas.List.{append_assoc, length-append, map-append, reverse-append}
 use Rattle.std.proofs.lemmas.List.Elements.{All-nil, All-push, All-weaker}
 use mathlib.Core.Option.{some, some-injective, some-ne-none}
 use lib.ListN.{get_elem?}
@@ -80,10 +80,14 @@ module _ {T H : Type 0} (number : T → ℕ) (home : T → H) (kept : T → Type
         refl,
       )
 
--- the items that are in and those still to come are all, also when the next one goes in
+-- the items that are in and those still to come, the last of which is next, are all
 pub whole-next : {T : Type 0} (done before rest all : List T) (x : T) → before ≡ rest ++ x ∷ [] → done ++ reverse before ≡ all →
     done ++ x ∷ reverse rest ≡ all
 whole-next done before rest all x is whole = ap (λ l. done ++ l) (sym (ap reverse is ∙ reverse-append rest (x ∷ []))) ∙ whole
+
+-- and so they are when that one is in
+pub whole-push : {T : Type 0} (done rest all : List T) (x : T) → done ++ x ∷ rest ≡ all → (done ++ x ∷ []) ++ rest ≡ all
+whole-push done rest all x whole = append_assoc done (x ∷ []) rest ∙ whole
 
 module _ {T H : Type 0} (number : T → ℕ) (home : T → H) where
   -- before the first item no home is known, and then that of all

@@ -1,10 +1,18 @@
--- What a pass knows that takes in the others.
-use Rattle.std.proofs.Common.{◌≡◌, ℕ, ◌+◌, List, [], ◌∷◌, ◌++◌, Some, All, sym, ap, subst, ◌∙◌, arith}
+-- Passes after a step, and what the pass knows that takes in the others.
+use Rattle.std.proofs.Common.{◌≡◌, ℕ, ◌+◌, List, [], ◌∷◌, ◌++◌, Option, Some, All, sym, ap, subst, ◌∙◌, arith}
 use Rattle.std.proofs.lemmas.List.Elements.{All-pop}
+use Rattle.crossbeam_queue.specs.declared.array_queue.Doing.{Doing}
+use Rattle.crossbeam_queue.specs.declared.array_queue.Slotted.{Slotted}
+use Rattle.crossbeam_queue.specs.Passes.{Pass, IsSamePass, IsPassOf}
 use Rattle.zk_pool.specs.declared.pool.Pool.{Pool}
 use Rattle.zk_pool.specs.declared.views.View.{View}
 use Rattle.zk_pool.specs.Hands.{StandsFor}
 use Rattle.zk_pool.specs.Views.{joined}
+
+-- a pass of a queue stays one of it
+pub stays-pass : {T V Q A : Type 0} (q : Slotted (Option T) (Doing T V) Q A) (old new : Pass T V) → IsPassOf q old →
+    IsSamePass old new → IsPassOf q new
+stays-pass q old new own same = (same.0 ∙ own.0, same.2 ∙ own.1)
 
 -- the last of a list, and the others
 pub All-last : {A : Type 0} (P : A → Type 0) (xs ys : List A) (x : A) → xs ≡ ys ++ x ∷ [] → All P xs → All P ys × P x

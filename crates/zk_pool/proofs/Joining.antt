@@ -1,5 +1,5 @@
 -- Passes that are joined keep the rule of a pool.
-use Rattle.std.proofs.Common.{◌≡◌, ⊎_elim, ℕ, ◌+◌, ◌<◌, List, length, set, refl, subst, arith}
+use Rattle.std.proofs.Common.{⊎_elim, ℕ, ◌<◌, set, refl, subst, arith}
 use Rattle.std.proofs.lemmas.List.{length-append}
 use Rattle.crossbeam_queue.specs.Fifo.{Merges}
 use Rattle.crossbeam_queue.proofs.Lists.{at_set}

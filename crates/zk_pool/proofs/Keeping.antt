@@ -1,5 +1,5 @@
 -- What still holds of a view, and of all views, when one pass changes.
-use Rattle.std.proofs.Common.{◌≡◌, ◌≢◌, ⊎_elim, ℕ, ◌+◌, ◌<◌, ◌≤◌, Option, List, [], ◌∷◌, ◌++◌, length, map, set, sum_by, All, refl, sym, ap, subst, ◌∙◌, arith}
+use Rattle.std.proofs.Common.{◌≡◌, ◌≢◌, ⊎_elim, ℕ, ◌+◌, ◌<◌, ◌≤◌, Option, List, [], ◌∷◌, ◌++◌, length, map, set, All, ap, subst, arith}
 use Rattle.std.proofs.lemmas.List.Sums.{sum_by_push}
 use mathlib.Core.Option.{some}
 use lib.ListN.{get_elem?}
@@ -7,7 +7,7 @@ use Rattle.crossbeam_queue.proofs.Lists.{at_set, at_snoc}
 use Rattle.zk_pool.specs.declared.views.View.{View}
 use Rattle.zk_pool.specs.Counts.{tally}
 use Rattle.zk_pool.specs.Rule.{hand_count, held_count, held_length, Suits, ViewStands, PoolStands}
-use Rattle.zk_pool.specs.Views.{holding, spent}
+use Rattle.zk_pool.specs.Views.{holding}
 use Rattle.zk_pool.proofs.Sums.{sum-set, sum-one, sum-two}
 
 module _ {H : Type 0} (made : ℕ) (numbers : List ℕ) (house : Option H) where

@@ -1,5 +1,5 @@
 -- What a pass learns from the rule of a pool.
-use Rattle.std.proofs.Common.{◌≡◌, ℕ, ◌+◌, ◌<◌, List, [], ◌∷◌, length, sum_by, sym, ap, ◌∙◌, arith}
+use Rattle.std.proofs.Common.{◌≡◌, ℕ, ◌<◌, List, [], ◌∷◌, length, sum_by, sym, ap, ◌∙◌, arith}
 use Rattle.crossbeam_queue.specs.Fifo.{Learns}
 use Rattle.zk_pool.specs.declared.views.View.{View}
 use Rattle.zk_pool.specs.Counts.{tally}

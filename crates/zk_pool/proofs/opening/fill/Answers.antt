@@ -1,10 +1,9 @@
-use Rattle.std.proofs.Common.{rules, ◌≡◌, ◌+◌, ◌<◌, ◌++◌, ◌∷◌, [], ◌∙◌, reverse, List, refl, sym, ap, arith}
-use Rattle.std.proofs.lemmas.List.{append_assoc}
+use Rattle.std.proofs.Common.{◌≡◌, ◌<◌, ◌++◌, ◌∷◌, [], ◌∙◌, reverse, vec_capacity, refl, sym, ap, arith}
 use Rattle.crossbeam_queue.specs.Passes.{view, ruled_capacity}
 use Rattle.zk_pool.specs.Hands.{home_in}
 use Rattle.zk_pool.specs.Rule.{Suits}
-use Rattle.zk_pool.proofs.Filling.{fills, whole-next, home-next, undealt-next}
-use Rattle.zk_pool.proofs.Gathering.{All-last}
+use Rattle.zk_pool.proofs.Filling.{fills, whole-next, whole-push, home-next, undealt-next}
+use Rattle.zk_pool.proofs.Gathering.{All-last, stays-pass}
 use Rattle.zk_pool.proofs.opening.fill.Goals as goal
 
 pub try_push_as-requires-clause-rule : goal.try_push_as-requires-clause-rule
@@ -41,13 +40,13 @@ loop-item-preserved g c =
     let whole = whole-next done c.loop-item.items.items rest all item is inv.3.1 in
     let each = All-last (Suits number home kept (home_in home all)) c.loop-item.items.items rest item is inv.2 in
     let house = home-next number home done (reverse rest) all item (home_in home done) refl whole each.1.0 in
-    let queue = c.in-Ok.ensures.queue in (
-      (queue.0 ∙ inv.0.0, queue.2 ∙ inv.0.1),
-      c.pop.ensures.capacity ∙ inv.1,
+    let room : vec_capacity c.pop.new.self ≡ vec_capacity c.loop-item.items = c.pop.ensures.capacity in (
+      stays-pass c.args.queue.now c.loop-item.pass c.try_push_as.new.pass inv.0 c.in-Ok.ensures.queue,
+      room ∙ inv.1,
       each.0,
       (
         done ++ item ∷ [],
-        append_assoc done (item ∷ []) (reverse rest) ∙ whole,
+        whole-push done (reverse rest) all item whole,
         undealt-next number home done item (view c.loop-item.pass) (view c.try_push_as.new.pass) inv.3.2 c.in-Ok.ensures.rule house,
       ),
     )

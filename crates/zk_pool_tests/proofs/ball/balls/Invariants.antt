@@ -1,4 +1,4 @@
-use Rattle.std.proofs.Common.{◌≡◌, ◌≤◌, length, All, vec_len, vec_capacity}
+use Rattle.std.proofs.Common.{◌≡◌, ◌≤◌, All, vec_len, vec_capacity}
 use Rattle.zk_pool_tests.specs.Juggling.{IsWhole}
 use Rattle.zk_pool_tests.proofs.ball.balls.Given as goal
 

@@ -1,7 +1,7 @@
-use Rattle.std.proofs.Common.{rules, ◌≡◌, ◌+◌, ◌-◌, ◌<◌, ◌≤◌, ◌∙◌, [], vec_len, arith}
+use Rattle.std.proofs.Common.{◌≡◌, ◌-◌, ◌<◌, [], vec_len, arith}
 use Rattle.crossbeam_queue.specs.Passes.{view}
 use Rattle.zk_pool.specs.Hands.{IsHandOf, hand_held, pool_hands}
-use Rattle.zk_pool.proofs.Gathering.{All-last, stands-joined, held-joined}
+use Rattle.zk_pool.proofs.Gathering.{All-last, stays-pass, stands-joined, held-joined}
 use Rattle.zk_pool.proofs.Joining.{joins}
 use Rattle.zk_pool.proofs.pool.Pool.gather.Goals as goal
 
@@ -29,9 +29,8 @@ loop-other-preserved g c =
     let none = All-last (λ h. hand_held h ≡ []) before.items after.items hand is inv.5 in
     let one_less = c.in-Some-pop.ensures.cases in
     let left = inv.1 in
-    let queue = c.absorb.ensures.queue in
     let now = c.absorb.ensures.rule in (
-      (queue.0 ∙ inv.0.0, queue.2 ∙ inv.0.1),
+      stays-pass pool.queue c.loop-other.pass c.absorb.new.pass inv.0 c.absorb.ensures.queue,
       omega arith,
       stands-joined number home pool (pool_hands pool - vec_len before) (pool_hands pool - vec_len after)
           (view c.loop-other.pass) (view hand.pass) (view c.absorb.new.pass) now (omega arith) inv.2 own.1.stands,

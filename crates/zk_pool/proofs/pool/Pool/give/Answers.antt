@@ -1,4 +1,4 @@
-use Rattle.std.proofs.Common.{rules, ◌≡◌, ◌<◌, ◌∙◌, sym, arith}
+use Rattle.std.proofs.Common.{◌<◌, ◌∙◌, sym, arith}
 use Rattle.crossbeam_queue.specs.Passes.{view, ruled_capacity}
 use Rattle.zk_pool.specs.Rule.{Suits}
 use Rattle.zk_pool.proofs.Learning.{room_is_there}

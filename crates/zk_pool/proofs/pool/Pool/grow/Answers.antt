@@ -1,4 +1,4 @@
-use Rattle.std.proofs.Common.{rules, ◌≡◌, ◌<◌, ◌≤◌, ◌∙◌, sym, ap, arith}
+use Rattle.std.proofs.Common.{◌<◌, ◌∙◌, sym, ap, arith}
 use Rattle.crossbeam_queue.specs.Passes.{view}
 use Rattle.zk_pool.proofs.Dealing.{grows}
 use Rattle.zk_pool.proofs.pool.Pool.grow.Goals as goal

@@ -1,4 +1,4 @@
-use Rattle.std.proofs.Common.{rules, ◌≡◌, ◌+◌, ◌<◌, ◌≤◌, ◌∙◌, length, sym, ap, arith}
+use Rattle.std.proofs.Common.{◌<◌, ◌∙◌, length, sym, ap, arith}
 use Rattle.crossbeam_queue.specs.Passes.{view}
 use Rattle.zk_pool.specs.Counts.{tally}
 use Rattle.zk_pool.proofs.Dealing.{finds_nothing}
