@@ -1,0 +1,10 @@
+mod Counts
+pub mod Crossing
+mod Dealing
+mod Filling
+mod Gathering
+mod Joining
+mod Keeping
+mod Learning
+mod Moving
+mod Sums

@@ -1,0 +1,5 @@
+pub mod Counts
+pub mod Hands
+pub mod Rule
+pub mod Steps
+pub mod Views

@@ -1,0 +1,17 @@
+//! A pool of items that threads take out, one at a time, and give back: each item is in the queue or in one hand.
+#![tactic(auto)]
+
+mod close;
+mod hand;
+mod moves;
+mod numbered;
+mod opening;
+mod pool;
+mod rule;
+mod views;
+
+pub use hand::Hand;
+pub use numbered::Numbered;
+pub use pool::Pool;
+pub use rule::{Deal, Fill, FindNothing, Give, Grow, Merge, PoolRule, Take};
+pub use views::View;
