@@ -30,7 +30,7 @@ use Rattle.zk_worker.specs.declared.steps.Step.TheVariants as steps
 use Rattle.zk_worker.specs.Families.{is_declared}
 use Rattle.zk_worker.specs.Machines.{sem_start, msgq_start, signal_start}
 use Rattle.zk_worker.specs.Ranges.{step_fits}
-use Rattle.zk_worker.specs.Moves.{is_unasked, asks_behind, asks_from}
+use Rattle.zk_worker.specs.Moves.{is_unasked}
 use Rattle.zk_worker.specs.Polls.{fresh, is_armed, is_to_ask, marked, event_of, watched_from, asks_more, unasked_from, ask_step, watch_step, drop_step, step_at, asking, dropping, watching, alarm_steps, is_closing, registers, polling, poll_start, poll_attempts}
 use Rattle.zk_worker.specs.Refs.{ref_object}
 
@@ -220,6 +220,15 @@ unasked-after n p (event ∷ events) (m ∷ marks) mark asked is = by p (is_to_a
         ap (λ (c : Bool). cond c (Some n) (unasked_from (n + 1) events (set marks q mark))) first
         ∙ more q (is ∙ ap (λ (k : ℕ). Some k) here)
         ∙ ap (λ (k : ℕ). unasked_from k (drop (suc q) events) (drop (suc q) marks)) behind
+
+-- whether an event behind this place is still to be asked
+abbrev asks_behind : ℕ → List Event → List Mark → Bool
+asks_behind place events marks = is_some (unasked_from (place + 1) (drop (place + 1) events) (drop (place + 1) marks))
+
+-- whether more is to be asked behind the first event that was to be asked, if there was one
+abbrev asks_from : Option ℕ → List Event → List Mark → Bool
+asks_from (Some place) events marks = asks_behind place events marks
+asks_from None events marks = false
 
 -- once it has its mark, an event is to be asked where one behind it is
 asks_marked : (events : List Event) (marks : List Mark) (place : ℕ) (mark : Mark) → is_unasked mark ≡ false → unasked_from 0 events marks ≡ Some place →
