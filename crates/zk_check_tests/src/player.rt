@@ -114,7 +114,7 @@ impl Player {
 
     fn answer(&mut self, step: u32, call: Call, answer: Answer) -> Result<(), NoMemory> {
         let word = word_of(&call);
-        self.answers.push(&Answered { step, word, answer })?;
+        self.answers.push(Answered { step, word, answer })?;
         self.next = self.next.saturating_add(1);
         self.stage = Stage::Fresh;
         Ok(())

@@ -59,7 +59,7 @@ fn read_answers(
 {
     let mut answers = Answers::new(alloc);
     while let Some(answered) = read_row::<Answered>(alloc, scenario, hints, None, feed)? {
-        answers.push(&answered)?;
+        answers.push(answered)?;
     }
     Ok(answers)
 }

@@ -165,20 +165,15 @@ impl AnswerRows {
     }
 
     /// One answered call more; it may take memory.
-    pub fn grow(&mut self, answered: &Answered) -> Result<(), NoMemory>
-        ensures ok { OnOk result (self.new.items ≡ self.old.items ++ answered.now ∷ []) }
+    pub fn grow(&mut self, answered: Answered) -> Result<(), NoMemory>
+        ensures ok { OnOk result (self.new.items ≡ self.old.items ++ answered ∷ []) }
         ensures err { OnErr result (self.new.items ≡ self.old.items) }
     {
         let Answered { step, word, answer } = answered;
-        let brief = brief_by(answer, self.messages.len());
+        let brief = brief_by(&answer, self.messages.len());
         self.rows.reserve(1)?;
-        grow_messages(&mut self.messages, answer)?;
-        let row = AnswerRow {
-            step: *step,
-            word: *word,
-            brief,
-        };
-        push_within(&mut self.rows, row);
+        grow_messages(&mut self.messages, &answer)?;
+        push_within(&mut self.rows, AnswerRow { step, word, brief });
         Ok(())
     }
 }

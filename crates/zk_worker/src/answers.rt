@@ -93,8 +93,8 @@ impl Answers {
     }
 
     /// One more at the end.
-    pub fn push(&mut self, answered: &Answered) -> Result<(), NoMemory>
-        ensures ok { OnOk result (self.new ≡ self.old ++ answered.now ∷ []) }
+    pub fn push(&mut self, answered: Answered) -> Result<(), NoMemory>
+        ensures ok { OnOk result (self.new ≡ self.old ++ answered ∷ []) }
         ensures err { OnErr result (self.new ≡ self.old) }
     {
         self.rows.grow(answered)

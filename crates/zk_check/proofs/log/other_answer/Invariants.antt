@@ -4,4 +4,4 @@ use Rattle.zk_check.specs.OtherAnswers.{HasAt}
 use Rattle.zk_check.proofs.log.other_answer.Given as goal
 
 abbrev pub invariant-loop-place : goal.invariant-loop-place
-invariant-loop-place l = (k : ℕ) (answer : Answered) → k < l.place → HasAt l.logged k answer → HasAt l.answers k answer
+invariant-loop-place l = (k : ℕ) (answer : Answered) → k < l.place → HasAt l.logged k answer → HasAt l.player.answers k answer

@@ -5,8 +5,8 @@ use Rattle.zk_trace.proofs.players_read.read_answers.Given as goal
 
 abbrev pub invariant-loop-answers : goal.invariant-loop-answers
 invariant-loop-answers l =
-    let says = λ last. answered_of l.scenario.decls in
-    rows_of says None l.fn.feed ≡ put_rows l.answers (rows_of says None l.feed)
+    rows_of (λ last. answered_of l.scenario.decls) None l.fn.feed
+    ≡ put_rows l.answers (rows_of (λ last. answered_of l.scenario.decls) None l.feed)
 
 abbrev pub decreases-loop-answers : goal.decreases-loop-answers
 decreases-loop-answers l = length l.feed

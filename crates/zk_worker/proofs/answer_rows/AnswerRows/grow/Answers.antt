@@ -7,7 +7,7 @@ invariant_of-self-2 c =
     let rows = c.push_within.ensures.items in
     let brief = c.brief_by-brief.ensures in
     let count = c.len.ensures in
-    kept-now c.self.inside.messages.items c.self.inside.rows.items c.args.answered.now.step c.args.answered.now.word c.args.answered.now.answer c.self.invariant
+    kept-now c.self.inside.messages.items c.self.inside.rows.items c.args.answered.step c.args.answered.word c.args.answered.answer c.self.invariant
     c.grow_messages.new.messages.items c.push_within.new.items.items c.in_ok-grow_messages.ensures.ok (cc)
 
 pub returns-clause-ok : goal.returns-clause-ok
@@ -15,5 +15,5 @@ returns-clause-ok c =
     let rows = c.push_within.ensures.items in
     let brief = c.brief_by-brief.ensures in
     let count = c.len.ensures in
-    told-now c.self.inside.messages.items c.self.inside.rows.items c.args.answered.now.step c.args.answered.now.word c.args.answered.now.answer c.self.invariant
+    told-now c.self.inside.messages.items c.self.inside.rows.items c.args.answered.step c.args.answered.word c.args.answered.answer c.self.invariant
     c.grow_messages.new.messages.items c.push_within.new.items.items c.args.self.now.items c.in_ok-grow_messages.ensures.ok (cc) (ap (λ v. v.items) c.self.view_is)
