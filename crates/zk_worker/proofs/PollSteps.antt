@@ -30,7 +30,7 @@ use Rattle.zk_worker.specs.declared.steps.Step.TheVariants as steps
 use Rattle.zk_worker.specs.Families.{is_declared}
 use Rattle.zk_worker.specs.Machines.{sem_start, msgq_start, signal_start}
 use Rattle.zk_worker.specs.Ranges.{step_fits}
-use Rattle.zk_worker.specs.Moves.{is_unasked, asks_behind, asks_from}
+use Rattle.zk_worker.specs.Moves.{is_unasked}
 use Rattle.zk_worker.specs.Polls.{fresh, is_armed, is_to_ask, marked, event_of, watched_from, asks_more, unasked_from, ask_step, watch_step, drop_step, step_at, asking, dropping, watching, alarm_steps, is_closing, registers, polling, poll_start, poll_attempts}
 use Rattle.zk_worker.specs.Refs.{ref_object}
 
@@ -201,44 +201,60 @@ not-asked event mark is = refl
 
 -- where the first event that is to be asked has its mark, the next one is looked for behind it
 unasked-after : (n p : ℕ) (events : List Event) (marks : List Mark) (mark : Mark) → is_unasked mark ≡ false → unasked_from n events marks ≡ Some (n + p) →
-    unasked_from n events (set marks p mark) ≡ unasked_from (n + p + 1) (drop (p + 1) events) (drop (p + 1) marks)
+    unasked_from n events (set marks p mark) ≡ unasked_from (n + p + 1) (drop (suc p) events) (drop (suc p) marks)
 unasked-after n p [] marks mark asked is = absurd (cc)
 unasked-after n p (event ∷ events) [] mark asked is = absurd (cc)
-unasked-after n p (event ∷ events) (m ∷ marks) mark asked is = by p (is_to_ask event m) refl is
+unasked-after n p (event ∷ events) (m ∷ marks) mark asked is = by p (is_to_ask event m) refl is (λ q there. unasked-after (n + 1) q events marks mark asked there)
   where
     by : (p : ℕ) (b : Bool) → is_to_ask event m ≡ b → cond b (Some n) (unasked_from (n + 1) events marks) ≡ Some (n + p) →
-        unasked_from n (event ∷ events) (set (m ∷ marks) p mark) ≡ unasked_from (n + p + 1) (drop (p + 1) (event ∷ events)) (drop (p + 1) (m ∷ marks))
-    by zero b first is =
+        ((q : ℕ) → unasked_from (n + 1) events marks ≡ Some (n + 1 + q) → unasked_from (n + 1) events (set marks q mark) ≡ unasked_from (n + 1 + q + 1) (drop (suc q) events) (drop (suc q) marks)) →
+        unasked_from n (event ∷ events) (set (m ∷ marks) p mark) ≡ unasked_from (n + p + 1) (drop (suc p) (event ∷ events)) (drop (suc p) (m ∷ marks))
+    by zero b first is more =
         let same : n + 1 ≡ n + 0 + 1 = omega arith in
         ap (λ (c : Bool). cond c (Some n) (unasked_from (n + 1) events marks)) (not-asked event mark asked)
         ∙ ap (λ (k : ℕ). unasked_from k events marks) same
-    by (suc q) true first is = let same : n ≡ n + suc q = cc in absurd (omega (arith, same))
-    by (suc q) false first is =
+    by (suc q) true first is more = let same : n ≡ n + suc q = cc in absurd (omega (arith, same))
+    by (suc q) false first is more =
         let here : n + suc q ≡ n + 1 + q = omega arith in
         let behind : n + 1 + q + 1 ≡ n + suc q + 1 = omega arith in
         ap (λ (c : Bool). cond c (Some n) (unasked_from (n + 1) events (set marks q mark))) first
-        ∙ unasked-after (n + 1) q events marks mark asked (is ∙ ap (λ (k : ℕ). Some k) here)
-        ∙ ap (λ (k : ℕ). unasked_from k (drop (q + 1) events) (drop (q + 1) marks)) behind
+        ∙ more q (is ∙ ap (λ (k : ℕ). Some k) here)
+        ∙ ap (λ (k : ℕ). unasked_from k (drop (suc q) events) (drop (suc q) marks)) behind
+
+-- whether an event behind this place is still to be asked
+abbrev asks_behind : ℕ → List Event → List Mark → Bool
+asks_behind place events marks = is_some (unasked_from (place + 1) (drop (place + 1) events) (drop (place + 1) marks))
+
+-- whether more is to be asked behind the first event that was to be asked, if there was one
+abbrev asks_from : Option ℕ → List Event → List Mark → Bool
+asks_from (Some place) events marks = asks_behind place events marks
+asks_from None events marks = false
 
 -- once it has its mark, an event is to be asked where one behind it is
 asks_marked : (events : List Event) (marks : List Mark) (place : ℕ) (mark : Mark) → is_unasked mark ≡ false → unasked_from 0 events marks ≡ Some place →
     asks_more events (set marks place mark) ≡ asks_behind place events marks
-asks_marked events marks place mark asked first = ap (λ (o : Option ℕ). is_some o) (unasked-after 0 place events marks mark asked first)
+asks_marked events marks place mark asked first =
+    let here : place ≡ 0 + place = omega arith in
+    let number : 0 + place + 1 ≡ place + 1 = omega arith in
+    let next : suc place ≡ place + 1 = omega arith in
+    ap (λ (o : Option ℕ). is_some o) (
+    unasked-after 0 place events marks mark asked (first ∙ ap (λ (k : ℕ). Some k) here)
+    ∙ ap (λ (k : ℕ). unasked_from k (drop (suc place) events) (drop (suc place) marks)) number
+    ∙ ap (λ (k : ℕ). unasked_from (place + 1) (drop k events) (drop k marks)) next
+    )
 
 -- where none is to be asked, none is once an event has its mark
 unasked-none : (n p : ℕ) (events : List Event) (marks : List Mark) (mark : Mark) → is_unasked mark ≡ false → unasked_from n events marks ≡ None →
     unasked_from n events (set marks p mark) ≡ None
 unasked-none n p [] marks mark asked is = refl
 unasked-none n p (event ∷ events) [] mark asked is = is
-unasked-none n p (event ∷ events) (m ∷ marks) mark asked is = by p (is_to_ask event m) refl is
+unasked-none n p (event ∷ events) (m ∷ marks) mark asked is = by p (is_to_ask event m) refl is (λ q none. unasked-none (n + 1) q events marks mark asked none)
   where
     by : (p : ℕ) (b : Bool) → is_to_ask event m ≡ b → cond b (Some n) (unasked_from (n + 1) events marks) ≡ None →
-        unasked_from n (event ∷ events) (set (m ∷ marks) p mark) ≡ None
-    by p true first is = absurd (cc)
-    by zero false first is = ap (λ (c : Bool). cond c (Some n) (unasked_from (n + 1) events marks)) (not-asked event mark asked) ∙ is
-    by (suc q) false first is =
-        ap (λ (c : Bool). cond c (Some n) (unasked_from (n + 1) events (set marks q mark))) first
-        ∙ unasked-none (n + 1) q events marks mark asked is
+        ((q : ℕ) → unasked_from (n + 1) events marks ≡ None → unasked_from (n + 1) events (set marks q mark) ≡ None) → unasked_from n (event ∷ events) (set (m ∷ marks) p mark) ≡ None
+    by p true first is more = absurd (cc)
+    by zero false first is more = ap (λ (c : Bool). cond c (Some n) (unasked_from (n + 1) events marks)) (not-asked event mark asked) ∙ is
+    by (suc q) false first is more = ap (λ (c : Bool). cond c (Some n) (unasked_from (n + 1) events (set marks q mark))) first ∙ more q is
 
 -- whether more is to be asked once the event that a step is for has its mark
 pub asks-on : (events : List Event) (alarm : Alarm) (marks : List Mark) (made : Step) (mark : Mark) → is_unasked mark ≡ false → (unasked : Option ℕ) → unasked ≡ unasked_from 0 events marks →
@@ -258,16 +274,18 @@ unasked-within : (n place : ℕ) (events : List Event) (marks : List Mark) → u
     (place < n + length events) × (place < n + length marks)
 unasked-within n place [] marks is = absurd (cc)
 unasked-within n place (event ∷ events) [] is = absurd (cc)
-unasked-within n place (event ∷ events) (mark ∷ marks) is = by (is_to_ask event mark) is
+unasked-within n place (event ∷ events) (mark ∷ marks) is = by (is_to_ask event mark) is (λ there. unasked-within (n + 1) place events marks there)
   where
-    by : (b : Bool) → cond b (Some n) (unasked_from (n + 1) events marks) ≡ Some place → (place < n + length (event ∷ events)) × (place < n + length (mark ∷ marks))
-    by true is = let same : n ≡ place = cc in (omega (arith, same), omega (arith, same))
-    by false is = let more = unasked-within (n + 1) place events marks is in (omega (arith, more.0), omega (arith, more.1))
+    by : (b : Bool) → cond b (Some n) (unasked_from (n + 1) events marks) ≡ Some place →
+        (unasked_from (n + 1) events marks ≡ Some place → (place < n + 1 + length events) × (place < n + 1 + length marks)) →
+        (place < n + length (event ∷ events)) × (place < n + length (mark ∷ marks))
+    by true is more = let same : n ≡ place = cc in (omega (arith, same), omega (arith, same))
+    by false is more = let behind = more is in (omega (arith, behind.0), omega (arith, behind.1))
 
 -- the first event that is to be asked is one, and has a mark
 pub unasked_within : (events : List Event) (marks : List Mark) (place : ℕ) → unasked_from 0 events marks ≡ Some place →
     (place < length events) × (place < length marks)
-unasked_within events marks place is = unasked-within 0 place events marks is
+unasked_within events marks place is = let within = unasked-within 0 place events marks is in (omega (arith, within.0), omega (arith, within.1))
 
 at-first : (step : Option Step) → slice_get (option_to_list step) 0 ≡ step
 at-first None = refl
@@ -287,7 +305,7 @@ asking-at registers events marks place event first there =
   where
     by : ((x : Mark) × (place < length marks) × (slice_get marks place ≡ Some x) × (get_or marks place x ≡ x)) ⊎ ((length marks ≤ place) × (slice_get marks place ≡ None)) →
         option_and_then (λ mark. ask_step registers event) (slice_get marks place) ≡ ask_step registers event
-    by (inl marked) = ap (λ (o : Option Mark). option_and_then (λ mark. ask_step registers event) o) marked.2.1
+    by (inl there) = ap (λ (o : Option Mark). option_and_then (λ mark. ask_step registers event) o) there.2
     by (inr behind) = let within = unasked_within events marks place first in absurd (omega (arith, within.1, behind.0))
 
 polling-asks : (timeout : Timeout) (events : List Event) (alarm : Alarm) (marks : List Mark) (place index : ℕ) → unasked_from 0 events marks ≡ Some place →

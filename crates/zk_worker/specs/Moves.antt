@@ -1,4 +1,4 @@
-use Rattle.std.specs.Prelude.{◌≡◌, ℕ, ◌+◌, Bool, true, false, Option, Some, None, is_some, List, drop}
+use Rattle.std.specs.Prelude.{◌≡◌, ℕ, Bool, true, false, Option, Some, None, List}
 use Rattle.zk_line.specs.declared.events.Event.{Event}
 use Rattle.zk_words.specs.declared.timeout.Timeout.{Timeout}
 use Rattle.zk_words.specs.declared.word.Word.{Word}
@@ -13,7 +13,7 @@ use Rattle.zk_worker.specs.declared.frames.Stage.{Stage}
 use Rattle.zk_worker.specs.declared.frames.Stage.TheVariants.{Start, Polls}
 use Rattle.zk_worker.specs.declared.steps.Step.{Step}
 use Rattle.zk_worker.specs.declared.steps.StepReply.{StepReply}
-use Rattle.zk_worker.specs.Polls.{unasked_from, polled}
+use Rattle.zk_worker.specs.Polls.{polled}
 use Rattle.zk_worker.specs.Protocol.{answers_after}
 use Rattle.zk_worker.specs.Replies.{answer_of}
 
@@ -45,15 +45,6 @@ opens_at stage word reply None = Answers word (answer_of reply)
 abbrev pub is_unasked : Mark → Bool
 is_unasked Unasked = true
 is_unasked mark = false
-
--- whether an event behind this place is still to be asked
-abbrev pub asks_behind : ℕ → List Event → List Mark → Bool
-asks_behind place events marks = is_some (unasked_from (place + 1) (drop (place + 1) events) (drop (place + 1) marks))
-
--- whether more is to be asked behind the first event that was to be asked, if there was one
-abbrev pub asks_from : Option ℕ → List Event → List Mark → Bool
-asks_from (Some place) events marks = asks_behind place events marks
-asks_from None events marks = false
 
 -- what the reply to a step does to a poll that has begun
 abbrev pub poll_further : Word → Timeout → List Event → Stage → Step → StepReply → Progress

@@ -398,18 +398,24 @@ fn asks_on(unasked: Option<usize>, events: &[Event], marks: &[Mark; MOST_EVENTS]
     }
 }
 
+/// Sets the mark at a place.
+fn mark_at(marks: &mut [Mark; MOST_EVENTS], place: Option<usize>, mark: Mark)
+    ensures { marks.new ≡ marked marks.old place mark }
+{
+    if let Some(place) = place {
+        if place < MOST_EVENTS {
+            marks[place] = mark;
+        }
+    }
+}
+
 /// Sets a mark of a poll, if there is one at this place.
 fn put_mark(stage: &mut Stage, place: Option<usize>, mark: Mark)
     ensures { (alarm : Alarm) (marks : List Mark) → stage.old ≡ Stage.Polls alarm marks →
         stage.new ≡ Stage.Polls alarm (marked marks place mark) }
 {
-    let Some(place) = place else {
-        return;
-    };
     if let Stage::Polls(_, marks) = stage {
-        if place < MOST_EVENTS {
-            marks[place] = mark;
-        }
+        mark_at(marks, place, mark);
     }
 }
 

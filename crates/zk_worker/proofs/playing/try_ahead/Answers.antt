@@ -1,5 +1,4 @@
 use Rattle.std.proofs.Common.{ℕ, length, refl, sym, subst, arith, rules, ◌∙◌}
-use Rattle.std.specs.List.{slice_get}
 use Rattle.zk_base.specs.declared.ids.Who.{Who}
 use Rattle.zk_worker.specs.Protocol.{attempts}
 use Rattle.zk_worker.specs.Shown.{IsLater}

@@ -27,33 +27,33 @@ returns-in_err-told-clause-looks g c =
 
 pub returns-clause-does : goal.returns-clause-does
 returns-clause-does g c = record {
-  step = c.in-Some-2.step;
+  step = c.in-Some-ahead.step;
   reply = c.in-Some.reply;
-  first = tried-some _ _ _ _ _ c.in-Some-2.step c.in-Some.reply _ _ _ _ _ c.in_ok-told.ensures.tried (made-both _ _ c.in-Some.reply c.in-Some-2.step c.in-Some.is c.in-Some-2.is);
+  first = tried-some _ _ _ _ _ c.in-Some-ahead.step c.in-Some.reply _ _ _ _ _ c.in_ok-told.ensures.tried (made-both _ _ c.in-Some.reply c.in-Some-ahead.step c.in-Some.is c.in-Some-ahead.is);
   next = c.made.ensures.next;
 }
 
 pub returns-clause-log : goal.returns-clause-log
 returns-clause-log g c =
-    let first = tried-some _ _ _ _ _ c.in-Some-2.step c.in-Some.reply _ _ _ _ _ c.in_ok-told.ensures.tried (made-both _ _ c.in-Some.reply c.in-Some-2.step c.in-Some.is c.in-Some-2.is) in
+    let first = tried-some _ _ _ _ _ c.in-Some-ahead.step c.in-Some.reply _ _ _ _ _ c.in_ok-told.ensures.tried (made-both _ _ c.in-Some.reply c.in-Some-ahead.step c.in-Some.is c.in-Some-ahead.is) in
     log-stepped _ _ c.args.scenario.now c.args.self.now _ _ _ _ _ c.requires.log first.made c.made.ensures.next
 
 pub returns-clause-follows : goal.returns-clause-follows
 returns-clause-follows g c =
-    let first = tried-some _ _ _ _ _ c.in-Some-2.step c.in-Some.reply _ _ _ _ _ c.in_ok-told.ensures.tried (made-both _ _ c.in-Some.reply c.in-Some-2.step c.in-Some.is c.in-Some-2.is) in
+    let first = tried-some _ _ _ _ _ c.in-Some-ahead.step c.in-Some.reply _ _ _ _ _ c.in_ok-told.ensures.tried (made-both _ _ c.in-Some.reply c.in-Some-ahead.step c.in-Some.is c.in-Some-ahead.is) in
     λ number is. c.made.ensures.follows number first.made.found _ (stands-made _ _ c.args.self.now _ _ _ _ first.made)
     (following-between _ _ number _ _ _ _ first.made.since is)
 
 pub returns-clause-fits : goal.returns-clause-fits
 returns-clause-fits g c =
-    let first = tried-some _ _ _ _ _ c.in-Some-2.step c.in-Some.reply _ _ _ _ _ c.in_ok-told.ensures.tried (made-both _ _ c.in-Some.reply c.in-Some-2.step c.in-Some.is c.in-Some-2.is) in
+    let first = tried-some _ _ _ _ _ c.in-Some-ahead.step c.in-Some.reply _ _ _ _ _ c.in_ok-told.ensures.tried (made-both _ _ c.in-Some.reply c.in-Some-ahead.step c.in-Some.is c.in-Some-ahead.is) in
     c.made.ensures.fits c.requires.valid c.requires.fits
-    (replied-fits c.args.scenario.now _ first.made.found _ c.in-Some-2.step c.in-Some.reply c.requires.valid c.requires.machines first.made.replied)
-    (replied-passes c.args.scenario.now _ first.made.found _ c.in-Some-2.step c.in-Some.reply c.requires.machines first.made.replied)
+    (replied-fits c.args.scenario.now _ first.made.found _ c.in-Some-ahead.step c.in-Some.reply c.requires.valid c.requires.machines first.made.replied)
+    (replied-passes c.args.scenario.now _ first.made.found _ c.in-Some-ahead.step c.in-Some.reply c.requires.machines first.made.replied)
 
 pub returns-clause-looks : goal.returns-clause-looks
 returns-clause-looks g c =
-    let first = tried-some _ _ _ _ _ c.in-Some-2.step c.in-Some.reply _ _ _ _ _ c.in_ok-told.ensures.tried (made-both _ _ c.in-Some.reply c.in-Some-2.step c.in-Some.is c.in-Some-2.is) in
+    let first = tried-some _ _ _ _ _ c.in-Some-ahead.step c.in-Some.reply _ _ _ _ _ c.in_ok-told.ensures.tried (made-both _ _ c.in-Some.reply c.in-Some-ahead.step c.in-Some.is c.in-Some-ahead.is) in
     looks-stepped _ _ _ c.args.scenario.now c.args.self.now _ _ _ _ _ c.in_ok-told.ensures.machines c.requires.log c.requires.looks first.made c.made.ensures.next
 
 -- no attempt was possible
@@ -81,25 +81,25 @@ returns-in_default-clause-looks g c =
     let none = tried-none _ _ _ _ _ _ _ _ _ _ c.in_ok-told.ensures.tried (made-none _ _ c.in_default.is) in
     looks-still _ _ _ _ _ _ _ c.in_ok-told.ensures.machines c.requires.looks none.others
 
-pub returns-in_default-2-clause-does : goal.returns-in_default-2-clause-does
-returns-in_default-2-clause-does g c = record {
+pub returns-in_default-ahead-clause-does : goal.returns-in_default-ahead-clause-does
+returns-in_default-ahead-clause-does g c = record {
   unspent = search rules;
   not_through = search rules;
-  none = tried-none _ _ _ _ _ _ _ _ _ _ c.in_ok-told.ensures.tried (made-unput _ _ c.in-Some.reply c.in-Some.is c.in_default-2.is);
+  none = tried-none _ _ _ _ _ _ _ _ _ _ c.in_ok-told.ensures.tried (made-unput _ _ c.in-Some.reply c.in-Some.is c.in_default-ahead.is);
   unchanged = search rules;
 }
 
-pub returns-in_default-2-clause-log : goal.returns-in_default-2-clause-log
-returns-in_default-2-clause-log g c =
-    let none = tried-none _ _ _ _ _ _ _ _ _ _ c.in_ok-told.ensures.tried (made-unput _ _ c.in-Some.reply c.in-Some.is c.in_default-2.is) in
+pub returns-in_default-ahead-clause-log : goal.returns-in_default-ahead-clause-log
+returns-in_default-ahead-clause-log g c =
+    let none = tried-none _ _ _ _ _ _ _ _ _ _ c.in_ok-told.ensures.tried (made-unput _ _ c.in-Some.reply c.in-Some.is c.in_default-ahead.is) in
     log-still _ _ _ _ _ c.requires.log none.others
 
-pub returns-in_default-2-clause-follows : goal.returns-in_default-2-clause-follows
-returns-in_default-2-clause-follows g c =
-    let none = tried-none _ _ _ _ _ _ _ _ _ _ c.in_ok-told.ensures.tried (made-unput _ _ c.in-Some.reply c.in-Some.is c.in_default-2.is) in
+pub returns-in_default-ahead-clause-follows : goal.returns-in_default-ahead-clause-follows
+returns-in_default-ahead-clause-follows g c =
+    let none = tried-none _ _ _ _ _ _ _ _ _ _ c.in_ok-told.ensures.tried (made-unput _ _ c.in-Some.reply c.in-Some.is c.in_default-ahead.is) in
     λ number is. following-between _ _ number _ _ _ _ none.others is
 
-pub returns-in_default-2-clause-looks : goal.returns-in_default-2-clause-looks
-returns-in_default-2-clause-looks g c =
-    let none = tried-none _ _ _ _ _ _ _ _ _ _ c.in_ok-told.ensures.tried (made-unput _ _ c.in-Some.reply c.in-Some.is c.in_default-2.is) in
+pub returns-in_default-ahead-clause-looks : goal.returns-in_default-ahead-clause-looks
+returns-in_default-ahead-clause-looks g c =
+    let none = tried-none _ _ _ _ _ _ _ _ _ _ c.in_ok-told.ensures.tried (made-unput _ _ c.in-Some.reply c.in-Some.is c.in_default-ahead.is) in
     looks-still _ _ _ _ _ _ _ c.in_ok-told.ensures.machines c.requires.looks none.others
