@@ -28,6 +28,23 @@ one_more says xs x old now new before more =
     ∙ pair (sym (append_assoc xs (x ∷ []) rest.0)) refl
     ∙ ap (λ last. put_rows (xs ++ x ∷ []) (rows_of says last new)) (sym (last-more xs x))
 
+-- where what a line says doesn't hang on the row before it, rows are read from anywhere
+rows-any : {L X : Type 0} (says : L → Option X) (last last' : Option X) (lines : List L) →
+    rows_of (λ before. says) last lines ≡ rows_of (λ before. says) last' lines
+rows-any says last last' [] = refl
+rows-any says last last' (line ∷ lines) = refl
+
+-- one more of such rows
+pub one_more_plain : {L X : Type 0} (says : L → Option X) (xs : List X) (x : X) (old now new : List L) →
+    rows_of (λ before. says) None old ≡ put_rows xs (rows_of (λ before. says) None now) →
+    rows_of (λ before. says) None now ≡ (x ∷ (rows_of (λ before. says) (Some x) new).0, (rows_of (λ before. says) (Some x) new).1) →
+    rows_of (λ before. says) None old ≡ put_rows (xs ++ x ∷ []) (rows_of (λ before. says) None new)
+one_more_plain says xs x old now new before more =
+    let rest = rows_of (λ before. says) (Some x) new in
+    before ∙ ap (put_rows xs) more
+    ∙ pair (sym (append_assoc xs (x ∷ []) rest.0)) refl
+    ∙ ap (put_rows (xs ++ x ∷ [])) (rows-any says (Some x) None new)
+
 -- one more of those for each of some
 pub each_more : {L D A : Type 0} (read : D → List L → Reading L A) (ds : List D) (place : ℕ) (d : D) (front : List A) (a : A) (old now new : List L) →
     place < length ds → d ≡ get_or ds place d →

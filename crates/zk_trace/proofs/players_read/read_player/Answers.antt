@@ -9,6 +9,6 @@ pub returns : goal.returns
 returns c =
     let decls = c.args.scenario.now.decls in
     let state = sym (c.in-Some-player_state_of.ensures ∙ ap (λ name. player_state_of name c.in-Some.line.now) c.player_name-name.ensures) in
-    titled_there (player_state_of (player_name decls c.args.player)) (λ last. answered_of decls) c.args.feed.now c.in-Some.line.now c.go_on.new.self c.read_rows.new.feed
-    c.in-Some-player_state_of.state c.from_vec.result (c.in-Some.ensures ∙ ap (λ l. c.in-Some.line.now ∷ l) (sym c.go_on.ensures)) state
-    (c.in_ok-answers.ensures ∙ ap (λ rows. (rows, c.read_rows.new.feed)) (sym c.from_vec.ensures))
+    titled_there (player_state_of (player_name decls c.args.player)) (λ last. answered_of decls) c.args.feed.now c.in-Some.line.now c.go_on.new.self c.read_answers.new.feed
+    c.in-Some-player_state_of.state c.in_ok-answers.answers (c.in-Some.ensures ∙ ap (λ l. c.in-Some.line.now ∷ l) (sym c.go_on.ensures)) state
+    c.in_ok-answers.ensures
