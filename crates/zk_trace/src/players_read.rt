@@ -15,7 +15,7 @@ use std::alloc::Global;
 use zk_base::{Listed, NoMemory};
 use zk_scenario::Scenario;
 use zk_words::Words;
-use zk_worker::{Answered, Answers, PlayerState};
+use zk_worker::{Answer, Answered, Answers, PlayerState};
 
 /// How players can stand.
 const STATES: [PlayerState; 4] = [
@@ -57,6 +57,8 @@ fn read_answers(
     ensures { IfOk result (λ answers.
         rows_of (λ last. answered_of scenario.now.decls) None feed.old ≡ (answers, feed.new)) }
 {
+    // A type inside that the prover has to be told of.
+    let _known: Option<Answer> = None;
     let mut answers = Answers::new(alloc);
     while let Some(answered) = read_row::<Answered>(alloc, scenario, hints, None, feed)? {
         answers.push(answered)?;
