@@ -4,7 +4,7 @@ use Rattle.std.specs.declared.option.Option.TheVariants.{None}
 use Rattle.zk_pool.specs.declared.views.View.{View}
 
 module _ {H : Type 0} where
-  -- so many of the hands that there are, which hold nothing and have found the queue empty never
+  -- so many of the hands that there are, which hold nothing and have never found the queue empty
   abbrev pub resting : ℕ → ℕ → List ℕ → Option H → View H
   resting hands made numbers home = record { hands = hands; made = made; numbers = numbers; home = home; held = []; empties = 0 }
 

@@ -1,4 +1,4 @@
--- Balls, and hands between two throws.
+-- Balls, and hands that hold none.
 use Rattle.std.specs.Prelude.{◌≡◌, ℕ, []}
 use Rattle.zk_pool.specs.declared.hand.Hand.{Hand}
 use Rattle.zk_pool.specs.declared.pool.Pool.{Pool}
@@ -18,5 +18,5 @@ abbrev pub IsWhole : Ball → Type 0
 IsWhole ball = ball.color ≡ 7
 
 -- it is a hand of this pool that holds nothing
-abbrev pub IsIdle : {T H : Type 0} → (T → ℕ) → (T → H) → Pool T H → Hand T H → Type 0
-IsIdle number home pool hand = IsHandOf number home pool hand × (hand_held hand ≡ [])
+abbrev pub IsFree : {T H : Type 0} → (T → ℕ) → (T → H) → Pool T H → Hand T H → Type 0
+IsFree number home pool hand = IsHandOf number home pool hand × (hand_held hand ≡ [])

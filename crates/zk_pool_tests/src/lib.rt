@@ -7,4 +7,4 @@ mod juggling;
 mod tests;
 
 pub use ball::{Ball, balls};
-pub use juggling::{juggle, juggled_by_four, juggled_by_two};
+pub use juggling::{Juggled, juggle, juggled_by_four, juggled_by_two};

@@ -1,27 +1,25 @@
-ghost use Rattle.std.specs.Prelude.{◌≡◌, [], length, All};
+ghost use Rattle.std.specs.Prelude.{◌≡◌, ◌<◌, length, All};
 ghost use Rattle.zk_pool.specs.Hands.{IsNewHand, pool_hands};
-ghost use Rattle.zk_pool_tests.specs.Juggling.{ball_color, ball_number, IsIdle};
+ghost use Rattle.zk_pool_tests.specs.Juggling.{ball_color, ball_number, IsFree};
 
 use crate::{Ball, balls, juggled_by_four};
 use std::alloc::Global;
 use std::mem::size_of;
 use std::sync::Wait;
 use std::test::Fail;
+use std::thread::Threads;
 use zk_base::{NoMemory, push_within};
 use zk_pool::{Hand, Pool};
 
-/// How many balls four threads juggle.
-const BALLS: u32 = 64;
-
-/// How often each of them takes one.
-const TIMES: u32 = 250_000;
+/// Two hands of one pool.
+type TwoHands = (Hand<Ball>, Hand<Ball>);
 
 /// The two hands of a new pool.
-fn two_hands(pool: &Pool<Ball>, mut hands: Vec<Hand<Ball>>) -> (Hand<Ball>, Hand<Ball>)
+fn two_hands(pool: &Pool<Ball>, mut hands: Vec<Hand<Ball>>) -> TwoHands
     requires new { All (IsNewHand ball_number ball_color pool.now) hands.items }
     requires two { length hands.items ≡ 2 }
-    ensures first { IsIdle ball_number ball_color pool.now result.0 }
-    ensures second { IsIdle ball_number ball_color pool.now result.1 }
+    ensures first { IsFree ball_number ball_color pool.now result.0 }
+    ensures second { IsFree ball_number ball_color pool.now result.1 }
 {
     let Some(second) = hands.pop() else {
         unreachable!()
@@ -40,8 +38,8 @@ fn closed_by_two<R: Wait>(
     first: Hand<Ball>,
     second: Hand<Ball>,
 ) -> Result<Vec<Ball>, NoMemory>
-    requires first { IsIdle ball_number ball_color pool first }
-    requires second { IsIdle ball_number ball_color pool second }
+    requires first { IsFree ball_number ball_color pool first }
+    requires second { IsFree ball_number ball_color pool second }
     requires two { pool_hands pool ≡ 2 }
 {
     let mut hands = Vec::with_capacity(alloc, 2)?;
@@ -50,20 +48,16 @@ fn closed_by_two<R: Wait>(
     Ok(pool.close(rt, hands))
 }
 
-/// The four hands of a new pool, in two pairs.
-fn four_hands(
-    pool: &Pool<Ball>,
-    mut hands: Vec<Hand<Ball>>,
-) -> ((Hand<Ball>, Hand<Ball>), (Hand<Ball>, Hand<Ball>))
+/// The four hands of a new pool.
+fn four_hands(pool: &Pool<Ball>, mut hands: Vec<Hand<Ball>>) -> (TwoHands, TwoHands)
     requires new { All (IsNewHand ball_number ball_color pool.now) hands.items }
     requires four { length hands.items ≡ 4 }
-    ensures first { IsIdle ball_number ball_color pool.now result.0.0 × IsIdle ball_number ball_color pool.now result.0.1 }
-    ensures second { IsIdle ball_number ball_color pool.now result.1.0 × IsIdle ball_number ball_color pool.now result.1.1 }
+    ensures first { IsFree ball_number ball_color pool.now result.0.0 × IsFree ball_number ball_color pool.now result.0.1 }
+    ensures second { IsFree ball_number ball_color pool.now result.1.0 × IsFree ball_number ball_color pool.now result.1.1 }
 {
     let Some(d) = hands.pop() else { unreachable!() };
     let Some(c) = hands.pop() else { unreachable!() };
-    let (a, b) = two_hands(pool, hands);
-    ((a, b), (c, d))
+    (two_hands(pool, hands), (c, d))
 }
 
 /// The balls of a pool of four hands.
@@ -71,19 +65,44 @@ fn closed_by_four<R: Wait>(
     rt: &R,
     alloc: Global,
     pool: Pool<Ball>,
-    first: (Hand<Ball>, Hand<Ball>),
-    second: (Hand<Ball>, Hand<Ball>),
+    hands: (TwoHands, TwoHands),
 ) -> Result<Vec<Ball>, NoMemory>
-    requires first { IsIdle ball_number ball_color pool first.0 × IsIdle ball_number ball_color pool first.1 }
-    requires second { IsIdle ball_number ball_color pool second.0 × IsIdle ball_number ball_color pool second.1 }
+    requires first { IsFree ball_number ball_color pool hands.0.0 × IsFree ball_number ball_color pool hands.0.1 }
+    requires second { IsFree ball_number ball_color pool hands.1.0 × IsFree ball_number ball_color pool hands.1.1 }
     requires four { pool_hands pool ≡ 4 }
 {
+    let ((a, b), (c, d)) = hands;
     let mut hands = Vec::with_capacity(alloc, 4)?;
-    push_within(&mut hands, first.0);
-    push_within(&mut hands, first.1);
-    push_within(&mut hands, second.0);
-    push_within(&mut hands, second.1);
+    push_within(&mut hands, a);
+    push_within(&mut hands, b);
+    push_within(&mut hands, c);
+    push_within(&mut hands, d);
     Ok(pool.close(rt, hands))
+}
+
+/// The balls when four threads have juggled them, each so many times, and how often a thread caught one.
+fn juggled<R: Threads + Wait + Sync>(
+    rt: &R,
+    alloc: Global,
+    count: u32,
+    times: u32,
+) -> Result<(Vec<Ball>, u64), NoMemory>
+    requires { 0 < count }
+{
+    let (pool, hands) = Pool::new(alloc, balls(alloc, count)?, 4)?;
+    let hands = four_hands(&pool, hands);
+    let (hands, caught) = juggled_by_four(rt, &pool, hands, times);
+    let back = closed_by_four(rt, alloc, pool, hands)?;
+    Ok((back, caught))
+}
+
+/// How often these balls were caught.
+fn caught_in(balls: &[Ball]) -> u64 {
+    let mut caught = 0u64;
+    for ball in balls {
+        caught = caught.saturating_add(u64::from(ball.caught));
+    }
+    caught
 }
 
 /// Whether these are all the balls, each once.
@@ -129,21 +148,18 @@ fn three_balls_and_two_hands(rt: HostRuntime) -> Result<(), Fail> {
 
 #[test]
 fn four_threads_juggle(rt: HostRuntime) -> Result<(), Fail> {
-    let (pool, hands) = Pool::new(rt.alloc(), balls(rt.alloc(), BALLS)?, 4)?;
-    let (first, second) = four_hands(&pool, hands);
-    let (first, second) = juggled_by_four(&rt, &pool, first, second, TIMES);
-    let back = closed_by_four(&rt, rt.alloc(), pool, first, second)?;
-    assert!(rt; are_all(&back, BALLS), "all come back, each once");
+    let (back, caught) = juggled(&rt, rt.alloc(), 64, 250_000)?;
+    assert!(rt; are_all(&back, 64), "all come back, each once");
+    assert_eq!(rt; caught, 1_000_000, "there is always a ball in the pool");
+    assert_eq!(rt; caught_in(&back), caught, "a ball is in one hand at a time");
     Ok(())
 }
 
 #[test]
 fn more_threads_than_balls(rt: HostRuntime) -> Result<(), Fail> {
-    let (pool, hands) = Pool::new(rt.alloc(), balls(rt.alloc(), 1)?, 4)?;
-    let (first, second) = four_hands(&pool, hands);
-    let (first, second) = juggled_by_four(&rt, &pool, first, second, 1_000);
-    let back = closed_by_four(&rt, rt.alloc(), pool, first, second)?;
+    let (back, caught) = juggled(&rt, rt.alloc(), 1, 10_000)?;
     assert!(rt; are_all(&back, 1), "the one ball comes back");
+    assert_eq!(rt; caught_in(&back), caught, "it is in one hand at a time");
     Ok(())
 }
 
