@@ -189,7 +189,8 @@ fn asks_then(before: bool, word: &[u8]) -> bool
 /// How long is waited.
 #[tactic(auto, using(crate::proofs::RightWords::wait_says))]
 fn say_wait(args: &mut Args, word: &[u8]) -> Result<bool, NoMemory>
-    ensures { (free : Bool) → (decls : List Decl) → IfOk result (λ right. right ≡ true → Says free decls args.old slots.Wait word.now args.new) }
+    ensures { (free : Bool) → (decls : List Decl) → IfOk result (λ right. right ≡ true →
+        Says free decls args.old slots.Wait word.now args.new) }
 {
     match wait_of(word) {
         Some(wait) => {
@@ -203,7 +204,8 @@ fn say_wait(args: &mut Args, word: &[u8]) -> Result<bool, NoMemory>
 /// A number.
 #[tactic(auto, using(crate::proofs::RightWords::number_says))]
 fn say_number(args: &mut Args, least: u32, most: u32, word: &[u8]) -> Result<bool, NoMemory>
-    ensures { (free : Bool) → (decls : List Decl) → IfOk result (λ right. right ≡ true → Says free decls args.old (slots.Number least most) word.now args.new) }
+    ensures { (free : Bool) → (decls : List Decl) → IfOk result (λ right. right ≡ true →
+        Says free decls args.old (slots.Number least most) word.now args.new) }
 {
     match number_in(least, most, word) {
         Some(number) => {

@@ -16,8 +16,10 @@ impl<T: Numbered> Pool<T> {
         ensures own { IsHandOf T.number T.home self.now hand.new }
 
         // The hand holds the item's number too, or has found nothing once more.
-        ensures held { MatchOption result (hand_held hand.new ≡ hand_held hand.old) (λ x. hand_held hand.new ≡ hand_held hand.old ++ T.number x ∷ []) }
-        ensures empties { MatchOption result (hand_empties hand.new ≡ hand_empties hand.old + 1) (λ x. hand_empties hand.new ≡ hand_empties hand.old) }
+        ensures held { MatchOption result (hand_held hand.new ≡ hand_held hand.old)
+            (λ x. hand_held hand.new ≡ hand_held hand.old ++ T.number x ∷ []) }
+        ensures empties { MatchOption result (hand_empties hand.new ≡ hand_empties hand.old + 1)
+            (λ x. hand_empties hand.new ≡ hand_empties hand.old) }
 
         // The item suits the pool. The hand then holds no number more often than it is among all, and not more than all.
         ensures suits { IfSome result (λ x. Suits T.number T.home T.kept (pool_home T.home self.now) x) }

@@ -10,7 +10,6 @@ use crate::flags::flags_of;
 use crate::halves::sides_of;
 use crate::look_read::{can_be, raised_of};
 use crate::look_ups::chan_of;
-use crate::matching::is_same;
 use crate::messages::message_of;
 use crate::numerals::{narrow_of, short_of, wide_of};
 use crate::row_words::{oops_of, ready_of, two_words};
@@ -18,7 +17,7 @@ use crate::set_words::truth_of;
 use crate::words::{call_word, errno_word};
 use zk_base::Errno;
 use zk_scenario::Scenario;
-use zk_words::{Word, Words};
+use zk_words::{Word, Words, is_same};
 use zk_worker::{Answer, Answered};
 
 /// A call, as it is spelled in a scenario. The compiler makes of each a comparison with the table's own text.

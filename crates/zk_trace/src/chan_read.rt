@@ -7,7 +7,6 @@ ghost use Rattle.zk_trace.specs.Static.{static_row};
 use crate::chan::{Verb, reply_parts, verb_word};
 use crate::choosing::first_of;
 use crate::look_ups::observer_of;
-use crate::matching::is_same;
 use crate::messages::message_of;
 use crate::numerals::wide_of;
 use crate::parts::static_row;
@@ -15,7 +14,7 @@ use crate::row_words::{bare, observers_of, one_word, two_words};
 use crate::set_words::{state_of, waits_of};
 use zk_model_bus::{ChanOp, ChanReply};
 use zk_scenario::Scenario;
-use zk_words::Words;
+use zk_words::{Words, is_same};
 
 /// All verbs.
 const VERBS: [Verb; 11] = [

@@ -6,13 +6,12 @@ ghost use Rattle.zk_trace.specs.Static.{static_row};
 
 use crate::choosing::first_of;
 use crate::clock::{Verb, reply_parts, verb_word};
-use crate::matching::is_same;
 use crate::numerals::{narrow_of, wide_of};
 use crate::parts::{FixedWord, fixed_word, static_row};
 use crate::row_words::{behind, one_word};
 use zk_model_wait::{ClockOp, ClockReply};
 use zk_scenario::Scenario;
-use zk_words::Words;
+use zk_words::{Words, is_same};
 
 /// All verbs.
 const VERBS: [Verb; 3] = [Verb::Announce, Verb::Alarm, Verb::AlarmEnd];

@@ -6,7 +6,6 @@ ghost use Rattle.zk_trace.specs.WorkRead.{admitted_of, words_eq, submission_of, 
 
 use crate::choosing::first_of;
 use crate::look_ups::{item_of, queue_of};
-use crate::matching::is_same;
 use crate::numerals::admission_of;
 use crate::parts::{FixedWord, fixed_word, static_row};
 use crate::row_words::{one_word, two_words};
@@ -15,7 +14,7 @@ use std::alloc::Global;
 use zk_base::{Errno, Listed, NoMemory};
 use zk_model_work::{Expiries, Expiry, Submitted};
 use zk_scenario::Scenario;
-use zk_words::{Pieces, Words};
+use zk_words::{Pieces, Words, is_same};
 
 /// What was admitted: behind the answer the number of the admission and the queue.
 pub fn admitted_of<const SEPARATOR: u8>(

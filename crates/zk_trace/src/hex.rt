@@ -1,8 +1,9 @@
-ghost use Rattle.std.specs.Prelude.{◌≡◌, ◌++◌, ◌<◌, OnOk};
-ghost use Rattle.zk_words.specs.Hex.{digit_of, byte_text, hex_text};
+ghost use Rattle.std.specs.Prelude.{◌≡◌, ◌++◌, OnOk};
+ghost use Rattle.zk_words.specs.Hex.{byte_text, hex_text};
 
 use zk_base::NoMemory;
 use zk_paper::Paper;
+use zk_words::digit_of;
 
 /// Appends bytes in lower-case hexadecimal digits, two for each.
 pub fn put_hex(out: &mut Paper, bytes: &[u8]) -> Result<(), NoMemory>
@@ -22,16 +23,4 @@ fn put_byte(out: &mut Paper, byte: u8) -> Result<(), NoMemory>
     ensures front { out.new.front ≡ out.old.front }
 {
     out.put(&[digit_of(byte / 16), digit_of(byte % 16)])
-}
-
-#[inline(always)]
-fn digit_of(value: u8) -> u8
-    requires { value < 16 }
-    ensures { result ≡ digit_of value }
-{
-    if value < 10 {
-        value + b'0'
-    } else {
-        value - 10 + b'a'
-    }
 }

@@ -21,7 +21,6 @@ mod logs_read;
 mod look_read;
 mod look_ups;
 mod looks;
-mod matching;
 mod messages;
 mod msgq;
 mod msgq_read;

@@ -8,14 +8,13 @@ use crate::halves::sides_of;
 use crate::hints::Hints;
 use crate::look_ups::object_named;
 use crate::looks::{BUSY, CHECK, ItemLook, LOOK, STAMP, SignalLook, raised_word};
-use crate::matching::is_same;
 use crate::numerals::{narrow_of, short_of, wide_of};
 use crate::row_words::{behind, three_words, two_words};
 use crate::spot_read::step_of;
 use zk_base::Seen;
 use zk_model_bus::Need;
 use zk_scenario::Scenario;
-use zk_words::Words;
+use zk_words::{Words, is_same};
 
 /// A word that says nothing but that it is there.
 fn same_word(this: &[u8], word: &[u8]) -> Option<()>

@@ -2,11 +2,11 @@ ghost use Rattle.std.specs.Prelude.{◌≡◌};
 ghost use Rattle.zk_line.specs.Objects.{is_at, is_met, object_of};
 ghost use Rattle.zk_trace.specs.Fields.{object_named, item_of, queue_of, target_of, thread_of, chan_of, observer_of, checked_of};
 
-use crate::matching::is_same;
 use crate::names::{checked_name, target_name};
 use zk_line::kind_of;
 use zk_model_bus::Need;
 use zk_scenario::{Decl, Scenario};
+use zk_words::is_same;
 
 /// An object of any kind.
 pub fn object_of(scenario: &Scenario, word: &[u8]) -> Option<u32>

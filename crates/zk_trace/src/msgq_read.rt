@@ -5,7 +5,6 @@ ghost use Rattle.zk_trace.specs.MsgqRead.{verb_of, op_behind, op_of, bytes_reply
 ghost use Rattle.zk_trace.specs.Static.{static_row};
 
 use crate::choosing::first_of;
-use crate::matching::is_same;
 use crate::messages::message_of;
 use crate::msgq::{Verb, reply_parts, verb_word};
 use crate::numerals::{narrow_of, wide_of};
@@ -14,7 +13,7 @@ use crate::row_words::{bare, one_word, two_words};
 use crate::set_words::waits_of;
 use zk_model_wait::{MsgqOp, MsgqReply};
 use zk_scenario::Scenario;
-use zk_words::Words;
+use zk_words::{Words, is_same};
 
 /// All verbs.
 const VERBS: [Verb; 14] = [

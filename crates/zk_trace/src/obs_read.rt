@@ -6,7 +6,6 @@ ghost use Rattle.zk_trace.specs.Static.{static_row};
 
 use crate::choosing::first_of;
 use crate::look_ups::chan_of;
-use crate::matching::is_same;
 use crate::numerals::wide_of;
 use crate::obs::{Verb, reply_parts, verb_word};
 use crate::parts::static_row;
@@ -14,7 +13,7 @@ use crate::row_words::one_word;
 use crate::set_words::{state_of, waits_of};
 use zk_model_bus::{ObsOp, ObsReply};
 use zk_scenario::Scenario;
-use zk_words::Words;
+use zk_words::{Words, is_same};
 
 /// All verbs.
 const VERBS: [Verb; 5] = [

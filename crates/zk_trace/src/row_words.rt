@@ -3,7 +3,6 @@ ghost use Rattle.zk_base.specs.Limits.{most_few};
 ghost use Rattle.zk_trace.specs.Fields.{bare, one_word, two_words, three_words, behind, oops_of, observers_of, ready_of, observer_of, position_of, each_of, up_to};
 
 use crate::look_ups::observer_of;
-use crate::matching::is_same;
 use crate::names::NO_NAME;
 use crate::numerals::position_of;
 use crate::set_words::why_of;
@@ -12,7 +11,7 @@ use zk_base::{Few, MOST_FEW};
 use zk_line::MOST_EVENTS;
 use zk_model_bus::OopsWhy;
 use zk_scenario::Scenario;
-use zk_words::{Pieces, Words};
+use zk_words::{Pieces, Words, is_same};
 use zk_worker::Positions;
 
 /// This, where there is no word.

@@ -5,7 +5,6 @@ ghost use Rattle.zk_trace.specs.SemRead.{verb_of, op_behind, op_of, reply_of};
 ghost use Rattle.zk_trace.specs.Static.{static_row};
 
 use crate::choosing::first_of;
-use crate::matching::is_same;
 use crate::numerals::{narrow_of, wide_of};
 use crate::parts::static_row;
 use crate::row_words::{bare, one_word};
@@ -13,7 +12,7 @@ use crate::sem::{Verb, reply_parts, verb_word};
 use crate::set_words::waits_of;
 use zk_model_wait::{SemOp, SemReply};
 use zk_scenario::Scenario;
-use zk_words::Words;
+use zk_words::{Words, is_same};
 
 /// All verbs.
 const VERBS: [Verb; 9] = [

@@ -1,11 +1,10 @@
 ghost use Rattle.std.specs.Prelude.{◌≡◌};
 ghost use Rattle.zk_trace.specs.Fields.{errno_of, need_of, why_of, truth_of, waits_of, plug_of, state_of};
 
-use crate::matching::is_same;
 use crate::words::{errno_word, need_word, truth_word, wait_word, why_word};
 use zk_base::Errno;
 use zk_model_bus::{Need, OopsWhy};
-use zk_words::{Choice, choice_text};
+use zk_words::{Choice, choice_text, is_same};
 
 /// All refusals.
 const ERRNOS: [Errno; 7] = [

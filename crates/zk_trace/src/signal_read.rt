@@ -1,13 +1,12 @@
 ghost use Rattle.std.specs.Prelude.{◌≡◌};
 ghost use Rattle.zk_trace.specs.SignalRead.{verb_of, op_behind, op_of, reply_of};
 
-use crate::matching::is_same;
 use crate::numerals::{narrow_of, short_of};
 use crate::row_words::{bare, one_word};
 use crate::signal::{Verb, verb_word};
 use zk_model_wait::{SignalOp, SignalReply};
 use zk_scenario::Scenario;
-use zk_words::Words;
+use zk_words::{Words, is_same};
 
 /// All verbs.
 const VERBS: [Verb; 2] = [Verb::Raise, Verb::Clear];

@@ -7,11 +7,11 @@ ghost use Rattle.zk_trace.specs.SpotRead.{player_at, player_of, step_of, spot_of
 use crate::halves::halves;
 use crate::hints::Hints;
 use crate::lined::POINT;
-use crate::matching::is_same;
 use crate::names::player_name;
 use crate::numerals::narrow_of;
 use zk_base::Who;
 use zk_scenario::{Decl, Scenario};
+use zk_words::is_same;
 
 /// The player of a name: a thread's own, or a worker's queue's.
 pub fn player_of(scenario: &Scenario, hints: &Hints, name: &[u8]) -> Option<u32>

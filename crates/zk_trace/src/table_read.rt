@@ -6,14 +6,13 @@ ghost use Rattle.zk_trace.specs.TableRead.{verb_of, op_behind, op_of, oops_reply
 
 use crate::choosing::first_of;
 use crate::look_ups::{checked_of, object_of, thread_of};
-use crate::matching::is_same;
 use crate::parts::static_row;
 use crate::row_words::{bare, one_word, oops_of, two_words};
 use crate::set_words::need_of;
 use crate::table::{Verb, reply_parts, verb_word};
 use zk_model_bus::{TableOp, TableReply};
 use zk_scenario::Scenario;
-use zk_words::Words;
+use zk_words::{Words, is_same};
 
 /// All verbs.
 const VERBS: [Verb; 7] = [

@@ -11,7 +11,6 @@ use crate::choosing::first_of;
 use crate::expiries::{admitted_of, expiries_of};
 use crate::flags::flags_of;
 use crate::look_ups::{item_of, queue_of, target_of};
-use crate::matching::is_same;
 use crate::numerals::{admission_of, narrow_of, wide_of};
 use crate::parts::{FixedWord, fixed_word, static_row};
 use crate::row_words::{behind, one_word, three_words, two_words};
@@ -21,7 +20,7 @@ use std::alloc::Global;
 use zk_base::{Errno, NoMemory};
 use zk_model_work::{Submitted, WorkOp, WorkReply};
 use zk_scenario::Scenario;
-use zk_words::Words;
+use zk_words::{Words, is_same};
 
 /// All verbs.
 const VERBS: [Verb; 16] = [

@@ -76,7 +76,9 @@ pub fn put_byte(out: &mut Vec<u8>, byte: u8) -> Result<(), NoMemory>
     put(out, &[digit_of(byte / 16), digit_of(byte % 16)])
 }
 
-fn digit_of(value: u8) -> u8
+/// The lower-case hexadecimal digit of a value below 16.
+#[inline(always)]
+pub fn digit_of(value: u8) -> u8
     requires { value < 16 }
     ensures { result ≡ digit_of value }
 {

@@ -20,10 +20,11 @@ mod word;
 
 pub use event::{Asked, Source, event_named, is_ignore, need_of, source_text};
 pub use first::head_of;
-pub use hex::{is_hex, msg_of, put_hex};
+pub use hex::{digit_of, is_hex, msg_of, put_hex};
 pub use kind::{can_be_raw, makes_player, plays_script};
 pub use limits::{GREATEST_PRIORITY, GREATEST_RESULT, LEAST_PRIORITY, MOST_COUNT, MOST_TICKS};
 pub use line::{Line, line_of};
+pub use matching::is_same;
 pub use numbers::{exact_number_of, number_in, number_of, priority_of};
 pub use parts::{Part, Parts};
 pub use pieces::{Lines, Pieces, Words};
