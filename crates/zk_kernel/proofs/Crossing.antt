@@ -37,10 +37,11 @@ use Rattle.zk_kernel.specs.contracts.news.News as news
 use Rattle.zk_scenario.specs.contracts.scenario.Scenario as scenario
 use Rattle.zk_worker.specs.contracts.player.Player as player
 use Rattle.zk_worker.specs.contracts.frames.Frame as frame
-use Rattle.zk_worker.specs.contracts.answers.Answered as answered
+use Rattle.zk_worker.specs.contracts.answer_rows.AnswerRow as answer_row
+use Rattle.zk_worker.specs.contracts.answer_rows.AnswerRows as answer_rows
+use Rattle.zk_worker.specs.contracts.answer_rows.Brief as brief
 use Rattle.zk_worker.specs.contracts.steps.Spot as spot
 use Rattle.zk_words.specs.contracts.word.Word as word
-use Rattle.zk_worker.specs.contracts.answers.Answer as answer
 use Rattle.zk_base.specs.contracts.name.Name as name
 use Rattle.zk_line.specs.contracts.types.Ref as ref
 use Rattle.zk_line.specs.contracts.types.Decl as decl
@@ -125,18 +126,21 @@ frame_send = search (sendable, crosses) depth 60 fits 20000
 word_part : IsSend (word.the_field).row
 word_part = search (sendable, crosses) depth 60 fits 20000
 
-answer_part : IsSend (answer.the_field).row
-answer_part = search (message_send, sendable, crosses) depth 60 fits 20000
+brief_part : IsSend (brief.the_field).row
+brief_part = search (sendable, crosses) depth 60 fits 20000
 
-answered_send : IsSend answered.the_row
-answered_send = recorded_send _ _ _ answered.the_type.to_one
-    (struct_send (shape answered.the_type) (search sendable depth 14, (word_part, (answer_part, tt))))
+answer_row_send : IsSend answer_row.the_row
+answer_row_send = recorded_send _ _ _ answer_row.the_type.to_one
+    (struct_send (shape answer_row.the_type) (search sendable depth 14, (word_part, (brief_part, tt))))
+
+answer_rows_send : IsSend answer_rows.the_row
+answer_rows_send = search (answer_row_send, message_send, sendable, crosses) depth 40 fits 20000
 
 spot_send : IsSend spot.the_row
 spot_send = search (sendable, crosses) depth 60 fits 20000
 
 player_part : IsSend (player.the_field).row
-player_part = search (frame_send, answered_send, spot_send, sendable, crosses) depth 40 fits 20000
+player_part = search (frame_send, answer_rows_send, spot_send, sendable, crosses) depth 40 fits 20000
 
 pub caller_send : IsSend caller.the_row
 caller_send = recorded_send _ _ _ caller.the_type.to_one
