@@ -38,6 +38,8 @@ use Rattle.zk_work.proofs.Cancelling.{remarked, cancelling-push, cancelling-begi
 use Rattle.zk_work.proofs.Sound.{IsSound-push, IsSound-cancel, IsSound-end, IsSound-begin}
 use Rattle.zk_work.proofs.Replies.{runs_item}
 use Rattle.zk_work.proofs.Beside.{drains-stand, wait-stands}
+use Rattle.zk_work.proofs.Items.{queued}
+use Rattle.zk_work.proofs.Numbered.{numbered_as, numbered-admit}
 use Rattle.zk_work.proofs.Awaited.{there-later, Later-push, Later-drop, Later-begin, Later-end}
 
 abbrev Same : ℕ → ℕ → Type 0
@@ -87,9 +89,9 @@ idle-same o xs queue line run =
       none (Some t) b = refl
 
 -- what the engine keeps is whole after an admission, for which there is an entry
-pub admitted-whole : (k : EngineState) (item queue : ℕ) → IsWhole k → queue < k.active.queues →
-    k.made + length k.timeouts.live < k.entries → IsWhole (admitted k item queue)
-admitted-whole k item queue w queue_in room =
+pub admitted-whole : (k : EngineState) (item queue : ℕ) → IsWhole k → item < k.active.items → queue < k.active.queues →
+    active.is_queued k.active item ≡ false → k.made + length k.timeouts.live < k.entries → IsWhole (admitted k item queue)
+admitted-whole k item queue w item_in queue_in free room =
     let fewest = w.fewest in
     let shaped_lines = w.shaped.lines in
     record {
@@ -110,6 +112,7 @@ admitted-whole k item queue w queue_in room =
       above = above (omega arith);
       busy = w.busy;
       known = w.known;
+      numbered = numbered-admit k.made k.active item queue w.numbered item_in (omega arith) free;
     } where
       above : queue < length k.active.lines → IsAbove (k.made + 1) (active.admit k.active item queue k.made)
       above within =
@@ -139,7 +142,8 @@ admitted-stands k s item queue named st admits item_in queue_in room =
     let all_queues = w.queues in
     let queues = ap length st.queues in
     record {
-      whole = admitted-whole k item queue w (omega arith) room;
+      whole = admitted-whole k item queue w (omega arith) (omega arith)
+          (queued k.active xs item st.admissions.lines ∙ admits.not_waiting) room;
       time = st.time;
       entries = st.entries;
       queues = st.queues;
@@ -269,6 +273,9 @@ cancel-stands k s item st item_in few =
         busy = λ q t is. w.busy q t (ap (λ (rs : List (Option Ticket)). get_or rs q None) (sym o_runs) ∙ is);
         known = λ q t is. let before = w.known q t (ap (λ (rs : List (Option Ticket)). get_or rs q None) (sym o_runs)
             ∙ is) in subst (λ n. t.item < n) (sym o_items) before;
+        numbered = numbered_as o ys s.items (remarked xs s.marks item) lines runs
+            (IsSound-cancel s.items xs s.marks item st.admissions.sound) k.made
+            (st.admissions.made ∙ sym (length-map xs (drop_one item))) (o_items ∙ st.admissions.items);
       };
       time = st.time;
       entries = ap (λ n. n + 1) st.entries;
@@ -396,6 +403,8 @@ begin-stands k s queue t st queue_in few idle lowest =
         above = IsAbove-drop k.made t.item k.active w.above;
         busy = λ q u is. let some = (it q u is).some in omega arith;
         known = λ q u is. let known = (it q u is).known in let items = st.admissions.items in omega arith;
+        numbered = numbered_as (active.begun k.active queue t) ys s.items s.marks lines
+            (λ q. runs q (eqb_tells q queue) within) sound k.made (omega arith) st.admissions.items;
       };
       time = st.time;
       entries = ap (λ n. n + 1) st.entries;
@@ -410,8 +419,7 @@ begin-stands k s queue t st queue_in few idle lowest =
         made = omega arith;
         running = new_running;
         last = λ i. st.admissions.last i ∙ sym (last-set_life i xs t.number Running);
-        lines = λ q. line-drop k.active t.item q ∙ ap (without t.item) (st.admissions.lines q)
-            ∙ sym (without-begin t.item q 0 xs t.number a there waits_as_item (st.admissions.sound.once t.item));
+        lines = lines;
         runs = λ q. runs q (eqb_tells q queue) within;
         marks = λ i. st.admissions.marks i
             ∙ ap (λ b. record { cancelling = b; delayed = false; flushing = false })
@@ -443,6 +451,10 @@ begin-stands k s queue t st queue_in few idle lowest =
 
       waits_as_item : waits_as t.item a ≡ true
       waits_as_item = and_from (eqb a.item t.item) (is_waiting a.life) (eq-eqb a.item t.item stands.item) waits
+
+      lines : (q : ℕ) → active.line (active.begun k.active queue t) q ≡ tickets (waits_for q) ys
+      lines q = line-drop k.active t.item q ∙ ap (without t.item) (st.admissions.lines q)
+          ∙ sym (without-begin t.item q 0 xs t.number a there waits_as_item (st.admissions.sound.once t.item))
 
       none_runs : tickets (runs_on queue) xs ≡ []
       none_runs = sym (st.admissions.runs queue) ∙ ap option_to_list idle
@@ -509,6 +521,8 @@ end-stands k s queue t st queue_in few run =
         above = w.above;
         busy = λ q u is. let some = (it q u is).some in omega arith;
         known = λ q u is. let known = (it q u is).known in omega arith;
+        numbered = numbered_as o ys s.items s.marks lines (λ q. runs q (eqb_tells q queue) within) sound k.made
+            (st.admissions.made ∙ sym (length-map xs (end_one queue))) st.admissions.items;
       };
       time = st.time;
       entries = ap (λ n. n + 1) st.entries;

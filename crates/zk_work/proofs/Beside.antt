@@ -56,6 +56,7 @@ whole-beside k time entries t ws qs w counted timed fewer armed ordered queues =
   above = w.above;
   busy = w.busy;
   known = w.known;
+  numbered = w.numbered;
 }
 
 -- a change of the queues, at an entry that is counted

@@ -13,6 +13,7 @@ use Rattle.zk_queue.specs.declared.ticket.Ticket.{Ticket}
 use Rattle.zk_queue.specs.Open as active
 use Rattle.zk_work.specs.EngineState.{EngineState, is_there, StandsFor}
 use Rattle.zk_work.proofs.Sound.{IsSound-fresh}
+use Rattle.zk_work.proofs.Numbered.{numbered_as}
 
 -- all places of a list alike, and the same beyond
 alike : {A : Type 0} (n i : ℕ) (a : A) → get_or (replicate n a) i a ≡ a
@@ -56,6 +57,9 @@ fresh-stands items workers started same few =
         above = All-replicate (All (λ (t : Ticket). t.number < 0)) (length workers) [] (All-nil (λ (t : Ticket). t.number < 0));
         busy = λ q t is. absurd (none t (sym (alike (length workers) q None) ∙ is));
         known = λ q t is. absurd (none t (sym (alike (length workers) q None) ∙ is));
+        numbered = numbered_as (active.nothing_open items (length workers)) [] items []
+            (λ q. alike (length workers) q []) (λ q. ap option_to_list (alike (length workers) q None)) (IsSound-fresh items) 0
+            refl refl;
       };
       time = refl;
       entries = refl;

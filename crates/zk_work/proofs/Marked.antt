@@ -13,32 +13,44 @@ use Rattle.zk_time.specs.declared.timeout.Timeout.{Timeout}
 use Rattle.zk_time.specs.Timeouts.{Timeouts, is_of, is_due, nothing_armed, is_armed, deadline_of, queue_of, arm, disarm, due_first, due_rest, drop_due, Differ, IsOrdered}
 use Rattle.zk_queue.specs.declared.ticket.Ticket.{Ticket}
 use Rattle.zk_queue.specs.Open.{Open, ItemMarks, marks_in, unmarked, nothing_open, marks_of, run, next, is_running, is_queued, flags, mark, drop_item, begun, begin, end}
-use Rattle.zk_queue.proofs.Bits.{marks-in, delayed-on, delayed-off, delayed-only}
+use Rattle.zk_queue.proofs.Bits.{marks-in, delayed-on, delayed-off}
 use Rattle.zk_queue.specs.Open as tickets
 use Rattle.zk_time.specs.Timeouts as spec
-use Rattle.zk_work.specs.Active.{undelayed_marks, undelayed, AreMarked}
+use Rattle.zk_work.specs.Active.{plain_marks, plain, flushing_in, AreMarked}
 use Rattle.zk_work.specs.Engine.{cancelled}
+use Rattle.zk_work.proofs.Bits.{cancelling-on, cancelling-off, flushing-on, flushing-off}
 use Rattle.zk_work.proofs.Delaying.{disarmed-free}
 
 -- the marks of an item, but not delayed
-pub marks-undelayed : (o : Open) (item : ℕ) → marks_of (undelayed o) item ≡ undelayed_marks (marks_of o item)
-marks-undelayed o item = get_or-map undelayed_marks o.marks item unmarked
+pub marks-plain : (o : Open) (item : ℕ) → marks_of (plain o) item ≡ plain_marks (marks_of o item)
+marks-plain o item = get_or-map plain_marks o.marks item unmarked
 
 -- a mark may tell only that the item is armed or isn't
-pub undelayed-mark : (o : Open) (item n : ℕ) → undelayed_marks (marks_in n) ≡ undelayed_marks (marks_of o item) →
-    undelayed (mark o item n) ≡ undelayed o
-undelayed-mark o item n same =
-    ap (λ (ms : List ItemMarks). record (undelayed o) { marks = ms })
-    (map-set undelayed_marks o.marks item (marks_in n)
-    ∙ ap (set (map undelayed_marks o.marks) item) (same ∙ sym (marks-undelayed o item))
-    ∙ set-get_or (map undelayed_marks o.marks) item unmarked)
+pub plain-mark : (o : Open) (item n : ℕ) → plain_marks (marks_in n) ≡ plain_marks (marks_of o item) →
+    plain (mark o item n) ≡ plain o
+plain-mark o item n same =
+    ap (λ (ms : List ItemMarks). record (plain o) { marks = ms })
+    (map-set plain_marks o.marks item (marks_in n)
+    ∙ ap (set (map plain_marks o.marks) item) (same ∙ sym (marks-plain o item))
+    ∙ set-get_or (map plain_marks o.marks) item unmarked)
+
+-- the flushing mark of an item
+pub marks-flushing : (o : Open) (item : ℕ) → get_or (flushing_in o) item false ≡ (marks_of o item).flushing
+marks-flushing o item = get_or-map (λ (m : ItemMarks). m.flushing) o.marks item unmarked
+
+-- an item that is marked as flushing or isn't, as before
+pub flushing-mark : (o : Open) (item n : ℕ) → (marks_in n).flushing ≡ (marks_of o item).flushing →
+    flushing_in (mark o item n) ≡ flushing_in o
+flushing-mark o item n same =
+    map-set (λ (m : ItemMarks). m.flushing) o.marks item (marks_in n)
+    ∙ ap (set (flushing_in o) item) (same ∙ sym (marks-flushing o item)) ∙ set-get_or (flushing_in o) item false
 
 -- or tell more
-pub undelayed-marked : (o : Open) (item n m : ℕ) → undelayed_marks (marks_in n) ≡ marks_in m →
-    undelayed (mark o item n) ≡ mark (undelayed o) item m
-undelayed-marked o item n m same =
-    ap (λ (ms : List ItemMarks). record (undelayed o) { marks = ms })
-    (map-set undelayed_marks o.marks item (marks_in n) ∙ ap (set (map undelayed_marks o.marks) item) same)
+pub plain-marked : (o : Open) (item n m : ℕ) → plain_marks (marks_in n) ≡ marks_in m →
+    plain (mark o item n) ≡ mark (plain o) item m
+plain-marked o item n m same =
+    ap (λ (ms : List ItemMarks). record (plain o) { marks = ms })
+    (map-set plain_marks o.marks item (marks_in n) ∙ ap (set (map plain_marks o.marks) item) same)
 
 -- one item is marked, and armed so
 pub marked-set : (o : Open) (t after : Timeouts) (item n : ℕ) → AreMarked o t → item < o.items → after.items ≡ t.items →
@@ -81,16 +93,28 @@ marked-fresh items queues =
       delayed = λ (j : ℕ) j_in. ap (λ (m : ItemMarks). m.delayed) (get_or-replicate items j unmarked unmarked j_in);
     }
 
-pub undelayed-fresh : (items queues : ℕ) → undelayed (nothing_open items queues) ≡ nothing_open items queues
-undelayed-fresh items queues = ap (λ (ms : List ItemMarks). record (nothing_open items queues) { marks = ms }) (all items) where
-  all : (n : ℕ) → map undelayed_marks (replicate n unmarked) ≡ replicate n unmarked
+pub plain-fresh : (items queues : ℕ) → plain (nothing_open items queues) ≡ nothing_open items queues
+plain-fresh items queues = ap (λ (ms : List ItemMarks). record (nothing_open items queues) { marks = ms }) (all items) where
+  all : (n : ℕ) → map plain_marks (replicate n unmarked) ≡ replicate n unmarked
   all zero = refl
   all (suc n) = ap (λ (ms : List ItemMarks). unmarked ∷ ms) (all n)
 
+pub flushing-fresh : (items queues : ℕ) → flushing_in (nothing_open items queues) ≡ replicate items false
+flushing-fresh items queues = all items where
+  all : (n : ℕ) → map (λ (m : ItemMarks). m.flushing) (replicate n unmarked) ≡ replicate n false
+  all zero = refl
+  all (suc n) = ap (λ (bs : List Bool). false ∷ bs) (all n)
+
 -- a queue begins, and no mark changes
-pub undelayed-begin : (o : Open) (queue : ℕ) → undelayed (begin o queue) ≡ begin (undelayed o) queue
-undelayed-begin o queue = at (next o queue) where
-  at : (t : Option Ticket) → undelayed (option_map_or (begun o queue) t o) ≡ option_map_or (begun (undelayed o) queue) t (undelayed o)
+pub plain-begin : (o : Open) (queue : ℕ) → plain (begin o queue) ≡ begin (plain o) queue
+plain-begin o queue = at (next o queue) where
+  at : (t : Option Ticket) → plain (option_map_or (begun o queue) t o) ≡ option_map_or (begun (plain o) queue) t (plain o)
+  at None = refl
+  at (Some t) = refl
+
+pub flushing-begin : (o : Open) (queue : ℕ) → flushing_in (begin o queue) ≡ flushing_in o
+flushing-begin o queue = at (next o queue) where
+  at : (t : Option Ticket) → flushing_in (option_map_or (begun o queue) t o) ≡ flushing_in o
   at None = refl
   at (Some t) = refl
 
@@ -114,14 +138,31 @@ module _ (o : Open) (item : ℕ) where
   marks-off = ap marks_in (delayed-off (is_running o item) m.cancelling (is_queued o item) m.delayed m.flushing)
       ∙ marks-in (is_running o item) m.cancelling (is_queued o item) false m.flushing
 
-  -- or has no other mark
-  marks-only : marks_in (bit_and (flags o item) 8) ≡ record { cancelling = false; delayed = m.delayed; flushing = false }
-  marks-only = ap marks_in (delayed-only (is_running o item) m.cancelling (is_queued o item) m.delayed m.flushing)
-      ∙ marks-in false false false m.delayed false
+  -- or is being cancelled, or isn't any more
+  marks-cancelled : marks_in (bit_or (flags o item) 2) ≡ record { cancelling = true; delayed = m.delayed; flushing = m.flushing }
+  marks-cancelled = ap marks_in (cancelling-on (is_running o item) m.cancelling (is_queued o item) m.delayed m.flushing)
+      ∙ marks-in (is_running o item) true (is_queued o item) m.delayed m.flushing
+
+  marks-over : marks_in (bit_and (flags o item) (2 ^ 8 - 1 - 2)) ≡ record { cancelling = false; delayed = m.delayed; flushing = m.flushing }
+  marks-over = ap marks_in (cancelling-off (is_running o item) m.cancelling (is_queued o item) m.delayed m.flushing)
+      ∙ marks-in (is_running o item) false (is_queued o item) m.delayed m.flushing
+
+  -- or is being flushed, or isn't any more
+  marks-flushed : (b : Bool) (n : ℕ) → n ≡ (if b then bit_or (flags o item) 16 else bit_and (flags o item) (2 ^ 8 - 1 - 16)) →
+      marks_in n ≡ record { cancelling = m.cancelling; delayed = m.delayed; flushing = b }
+  marks-flushed true n is =
+      ap marks_in (is ∙ flushing-on (is_running o item) m.cancelling (is_queued o item) m.delayed m.flushing)
+      ∙ marks-in (is_running o item) m.cancelling (is_queued o item) m.delayed true
+  marks-flushed false n is =
+      ap marks_in (is ∙ flushing-off (is_running o item) m.cancelling (is_queued o item) m.delayed m.flushing)
+      ∙ marks-in (is_running o item) m.cancelling (is_queued o item) m.delayed false
 
 -- an item is armed
-pub armed-undelayed : (o : Open) (item n : ℕ) → n ≡ bit_or (flags o item) 8 → undelayed (mark o item n) ≡ undelayed o
-armed-undelayed o item n is = undelayed-mark o item n (ap undelayed_marks (ap marks_in is ∙ marks-on o item))
+pub armed-plain : (o : Open) (item n : ℕ) → n ≡ bit_or (flags o item) 8 → plain (mark o item n) ≡ plain o
+armed-plain o item n is = plain-mark o item n (ap plain_marks (ap marks_in is ∙ marks-on o item))
+
+pub armed-flushing : (o : Open) (item n : ℕ) → n ≡ bit_or (flags o item) 8 → flushing_in (mark o item n) ≡ flushing_in o
+armed-flushing o item n is = flushing-mark o item n (ap (λ (m : ItemMarks). m.flushing) (ap marks_in is ∙ marks-on o item))
 
 pub armed-marked : (o : Open) (t : Timeouts) (item queue deadline n : ℕ) → AreMarked o t → item < o.items →
     n ≡ bit_or (flags o item) 8 → AreMarked (mark o item n) (arm t item queue deadline)
@@ -138,8 +179,12 @@ armed-marked o t item queue deadline n marked within is =
           ∙ ap (λ b. b || list_any (is_of j) t.live) (ne_eqb item j (λ same. differ (sym same)))
 
 -- an item is disarmed
-pub disarmed-undelayed : (o : Open) (item n : ℕ) → n ≡ bit_and (flags o item) (2 ^ 8 - 1 - 8) → undelayed (mark o item n) ≡ undelayed o
-disarmed-undelayed o item n is = undelayed-mark o item n (ap undelayed_marks (ap marks_in is ∙ marks-off o item))
+pub disarmed-plain : (o : Open) (item n : ℕ) → n ≡ bit_and (flags o item) (2 ^ 8 - 1 - 8) → plain (mark o item n) ≡ plain o
+disarmed-plain o item n is = plain-mark o item n (ap plain_marks (ap marks_in is ∙ marks-off o item))
+
+pub disarmed-flushing : (o : Open) (item n : ℕ) → n ≡ bit_and (flags o item) (2 ^ 8 - 1 - 8) →
+    flushing_in (mark o item n) ≡ flushing_in o
+disarmed-flushing o item n is = flushing-mark o item n (ap (λ (m : ItemMarks). m.flushing) (ap marks_in is ∙ marks-off o item))
 
 pub disarmed-marked : (o : Open) (t : Timeouts) (item n : ℕ) → AreMarked o t → item < o.items →
     n ≡ bit_and (flags o item) (2 ^ 8 - 1 - 8) → AreMarked (mark o item n) (disarm t item)
@@ -237,38 +282,68 @@ end-none o queue none =
     (ap (set o.runs queue) (sym none) ∙ set-get_or o.runs queue None)
 
 -- a run is over
-pub over-undelayed : (o : Open) (queue item n : ℕ) → n ≡ bit_and (flags (end o queue) item) 8 →
-    undelayed (mark (end o queue) item n) ≡ mark (end (undelayed o) queue) item 0
-over-undelayed o queue item n is =
-    undelayed-marked (end o queue) item n 0 (ap undelayed_marks (ap marks_in is ∙ marks-only (end o queue) item))
+pub over-plain : (o : Open) (queue item n : ℕ) → n ≡ bit_and (flags (end o queue) item) (2 ^ 8 - 1 - 2) →
+    plain (mark (end o queue) item n) ≡ mark (end (plain o) queue) item 0
+over-plain o queue item n is =
+    plain-marked (end o queue) item n 0 (ap plain_marks (ap marks_in is ∙ marks-over (end o queue) item))
 
 pub over-marked : (o : Open) (t : Timeouts) (queue item n : ℕ) → AreMarked o t → item < o.items →
-    n ≡ bit_and (flags (end o queue) item) 8 → AreMarked (mark (end o queue) item n) t
+    n ≡ bit_and (flags (end o queue) item) (2 ^ 8 - 1 - 2) → AreMarked (mark (end o queue) item n) t
 over-marked o t queue item n marked within is =
     marked-set (end o queue) t t item n (marked-alike o (end o queue) t marked refl refl) within refl
-    (ap (λ (m : ItemMarks). m.delayed) (ap marks_in is ∙ marks-only (end o queue) item) ∙ marked.delayed item within)
+    (ap (λ (m : ItemMarks). m.delayed) (ap marks_in is ∙ marks-over (end o queue) item) ∙ marked.delayed item within)
     (λ (j : ℕ) differ. refl)
 
--- what has no timeout is marked as a cancel marks it
-pub cancelled-undelayed : (o : Open) (item : ℕ) → undelayed (mark (drop_item o item) item 2) ≡ mark (drop_item (undelayed o) item) item 2
-cancelled-undelayed o item = undelayed-marked (drop_item o item) item 2 2 refl
+pub over-flushing : (o : Open) (queue item n : ℕ) → n ≡ bit_and (flags (end o queue) item) (2 ^ 8 - 1 - 2) →
+    flushing_in (mark (end o queue) item n) ≡ flushing_in o
+over-flushing o queue item n is =
+    flushing-mark (end o queue) item n (ap (λ (m : ItemMarks). m.flushing) (ap marks_in is ∙ marks-over (end o queue) item))
 
-pub cancelled-marked : (o : Open) (t : Timeouts) (item : ℕ) → AreMarked o t → item < o.items → is_armed t item ≡ false →
-    AreMarked (mark (drop_item o item) item 2) t
-cancelled-marked o t item marked within free =
-    marked-set (drop_item o item) t t item 2 (marked-alike o (drop_item o item) t marked refl refl) within refl (sym free)
+-- what is dropped and runs is marked as a cancel marks it
+pub cancelled-plain : (o : Open) (item n : ℕ) → n ≡ bit_or (flags (drop_item o item) item) 2 →
+    plain (mark (drop_item o item) item n) ≡ mark (drop_item (plain o) item) item 2
+cancelled-plain o item n is =
+    plain-marked (drop_item o item) item n 2 (ap plain_marks (ap marks_in is ∙ marks-cancelled (drop_item o item) item))
+
+pub cancelled-marked : (o : Open) (t : Timeouts) (item n : ℕ) → AreMarked o t → item < o.items →
+    n ≡ bit_or (flags (drop_item o item) item) 2 → AreMarked (mark (drop_item o item) item n) t
+cancelled-marked o t item n marked within is =
+    marked-set (drop_item o item) t t item n (marked-alike o (drop_item o item) t marked refl refl) within refl
+    (ap (λ (m : ItemMarks). m.delayed) (ap marks_in is ∙ marks-cancelled (drop_item o item) item) ∙ marked.delayed item within)
     (λ (j : ℕ) differ. refl)
+
+pub cancelled-flushing : (o : Open) (item n : ℕ) → n ≡ bit_or (flags (drop_item o item) item) 2 →
+    flushing_in (mark (drop_item o item) item n) ≡ flushing_in o
+cancelled-flushing o item n is =
+    flushing-mark (drop_item o item) item n
+    (ap (λ (m : ItemMarks). m.flushing) (ap marks_in is ∙ marks-cancelled (drop_item o item) item))
 
 -- a cancel of an item whose timeout is gone already
-pub cancelled-running : (o before : Open) (item : ℕ) → undelayed o ≡ undelayed before → is_running o item ≡ true →
-    undelayed (mark (drop_item o item) item 2) ≡ cancelled (undelayed before) item
-cancelled-running o before item same runs =
-    cancelled-undelayed o item
-    ∙ ap (λ b. if b then mark (drop_item (undelayed o) item) item 2 else drop_item (undelayed o) item) (sym runs)
+pub cancelled-running : (o before : Open) (item n : ℕ) → plain o ≡ plain before → is_running o item ≡ true →
+    n ≡ bit_or (flags (drop_item o item) item) 2 → plain (mark (drop_item o item) item n) ≡ cancelled (plain before) item
+cancelled-running o before item n same runs is =
+    cancelled-plain o item n is
+    ∙ ap (λ b. if b then mark (drop_item (plain o) item) item 2 else drop_item (plain o) item) (sym runs)
     ∙ ap (λ (o : Open). cancelled o item) same
 
-pub cancelled-idle : (o before : Open) (item : ℕ) → undelayed o ≡ undelayed before → is_running o item ≡ false →
-    undelayed (drop_item o item) ≡ cancelled (undelayed before) item
+pub cancelled-idle : (o before : Open) (item : ℕ) → plain o ≡ plain before → is_running o item ≡ false →
+    plain (drop_item o item) ≡ cancelled (plain before) item
 cancelled-idle o before item same idle =
-    ap (λ b. if b then mark (drop_item (undelayed o) item) item 2 else drop_item (undelayed o) item) (sym idle)
+    ap (λ b. if b then mark (drop_item (plain o) item) item 2 else drop_item (plain o) item) (sym idle)
     ∙ ap (λ (o : Open). cancelled o item) same
+
+-- an item is marked as being flushed, or not, and nothing else
+module _ (o : Open) (item n : ℕ) (b : Bool)
+    (is : n ≡ (if b then bit_or (flags o item) 16 else bit_and (flags o item) (2 ^ 8 - 1 - 16))) where
+  pub flushed-plain : plain (mark o item n) ≡ plain o
+  flushed-plain = plain-mark o item n (ap plain_marks (marks-flushed o item b n is))
+
+  pub flushed-marked : (t : Timeouts) → AreMarked o t → item < o.items → AreMarked (mark o item n) t
+  flushed-marked t marked within =
+      marked-set o t t item n marked within refl
+      (ap (λ (m : ItemMarks). m.delayed) (marks-flushed o item b n is) ∙ marked.delayed item within) (λ (j : ℕ) differ. refl)
+
+  pub flushed-flushing : flushing_in (mark o item n) ≡ set (flushing_in o) item b
+  flushed-flushing =
+      map-set (λ (m : ItemMarks). m.flushing) o.marks item (marks_in n)
+      ∙ ap (set (flushing_in o) item) (ap (λ (m : ItemMarks). m.flushing) (marks-flushed o item b n is))

@@ -1,4 +1,4 @@
-use Rattle.std.specs.Prelude.{◌≡◌, ℕ, ◌+◌, ◌<◌, ◌≤◌, Bool, true, false, not, ◌&&◌, Option, Some, None, option_to_list, List, length, map, filter, count_by, slice_get, slice_index_or, All}
+use Rattle.std.specs.Prelude.{◌≡◌, ℕ, ◌⊎◌, ◌+◌, ◌<◌, ◌≤◌, Bool, true, false, not, ◌&&◌, Option, Some, None, option_to_list, List, length, map, filter, count_by, slice_get, slice_index_or, All}
 use Rattle.zk_model_work.specs.declared.ops.WorkOp.{WorkOp}
 use Rattle.zk_model_work.specs.declared.ops.WorkOp.TheVariants.{CancelDone, FlushDone, DrainDone, Announce, End}
 use Rattle.zk_model_work.specs.declared.parts.Life.{Life}
@@ -10,12 +10,13 @@ use Rattle.zk_model_work.specs.declared.parts.Awaited.TheVariants.{Cancel, Flush
 use Rattle.zk_model_work.specs.declared.parts.Wait.{Wait}
 use Rattle.zk_model_work.specs.declared.parts.Queue.{Queue}
 use Rattle.zk_model_work.specs.Questions.{is_waiting, is_running, is_open, is_live, waits_as, waits_for, runs_on, last_queue, is_cancelling, passes_at}
+use Rattle.zk_model_work.specs.Lists.{first}
 use Rattle.zk_model_work.specs.State.{State, IsCounted, IsTimed}
 use Rattle.zk_base.specs.Order.{by_key}
 use Rattle.zk_time.specs.declared.timeout.Timeout.{Timeout}
 use Rattle.zk_time.specs.Timeouts.{Timeouts, IsOrdered}
 use Rattle.zk_queue.specs.declared.ticket.Ticket.{Ticket}
-use Rattle.zk_queue.specs.Open.{Open, line, run, marks_of, IsAbove}
+use Rattle.zk_queue.specs.Open.{Open, line, run, waiting, running, marks_of, IsAbove}
 use Rattle.zk_work.specs.Tickets.{tickets}
 
 -- what the engine keeps: the ticks, the entries and the admissions so far, how many runs are open,
@@ -94,6 +95,16 @@ live_of arms = map timeout_of (filter (λ a. is_live a.fate) arms)
 abbrev pub timeouts_of : List Arm → List Timeout
 timeouts_of arms = by_key (λ t. t.deadline) (live_of arms)
 
+-- the item waits or runs by the admission of this number
+abbrev pub IsBy : Open → ℕ → ℕ → Type 0
+IsBy o item number = (waiting o item ≡ Some number) ⊎ (running o item ≡ Some number)
+
+-- the open admissions were made, and each is of one item, which there is
+pub record AreNumbered (next : ℕ) (o : Open) : Type 0 where
+  pub below : (item number : ℕ) → IsBy o item number → number < next
+  pub apart : (i j number : ℕ) → IsBy o i number → IsBy o j number → i ≡ j
+  pub within : (queue : ℕ) (t : Ticket) → first (line o queue) ≡ Some t → t.item < o.items
+
 -- what holds of all that the engine keeps
 pub record IsWhole (k : EngineState) : Type 0 where
   pub counted : IsCounted k.entries k.queues
@@ -110,6 +121,7 @@ pub record IsWhole (k : EngineState) : Type 0 where
   pub above : IsAbove k.made k.active
   pub busy : (queue : ℕ) (t : Ticket) → run k.active queue ≡ Some t → 0 < k.running
   pub known : (queue : ℕ) (t : Ticket) → run k.active queue ≡ Some t → t.item < k.active.items
+  pub numbered : AreNumbered k.made k.active
 
 -- what is kept of the admissions is what answers need of all that were made
 pub record StandsForAdmissions (next open_runs : ℕ) (homes : List (Option ℕ)) (o : Open)

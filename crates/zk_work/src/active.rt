@@ -1,12 +1,13 @@
-ghost use Rattle.std.specs.Prelude.{◌≡◌, ◌-◌, ◌^◌, ◌<◌, ◌≤◌, false, option_map, length, All, IfOk, IfSome};
+ghost use Rattle.std.specs.Prelude.{◌≡◌, ◌-◌, ◌^◌, ◌<◌, ◌≤◌, false, option_map, length, set, replicate, slice_index_or, All, IfOk, IfSome};
 ghost use Rattle.std.specs.Option.{option_map_or};
 ghost use Rattle.zk_model_work.specs.Lists.{first};
 ghost use Rattle.zk_model_work.specs.Machine.{settle_one, settle_from};
+ghost use Rattle.zk_model_work.specs.Questions.{busy_flags};
 ghost use Rattle.zk_queue.specs.Open.{nothing_open, line, run, is_idle, is_running, is_queued, is_open, marks_of, waiting, running, next, admit, begin, IsAbove};
 ghost use Rattle.zk_queue.specs.Open as tickets;
 ghost use Rattle.zk_time.specs.Timeouts.{nothing_armed, is_armed, deadline_of, queue_of, count_due, arm, disarm, due_first, drop_due, IsOrdered};
 ghost use Rattle.zk_time.specs.Timeouts as spec;
-ghost use Rattle.zk_work.specs.Active.{undelayed, AreMarked, run_over};
+ghost use Rattle.zk_work.specs.Active.{plain, flushing_in, AreMarked, run_over};
 ghost use Rattle.zk_work.specs.Engine.{cancelled};
 
 use bitflags::Flags;
@@ -30,7 +31,8 @@ pub struct Busy {
 
 /// The admissions that wait or run, and the items that are armed.
 ///
-/// The word of an item says whether it is armed, so that the list of those that are isn't asked.
+/// The word of an item says whether it is armed, so that the list of those that are isn't asked, and
+/// whether it is being flushed, as it was marked last.
 #[derive(Drop)]
 pub struct Active {
     admissions: Queues,
@@ -38,11 +40,15 @@ pub struct Active {
 }
 
 impl Model for Active {
-    ghost use Rattle.zk_work.specs.Active.{ActiveView, undelayed, AreMarked};
+    ghost use Rattle.zk_work.specs.Active.{ActiveView, plain, flushing_in, AreMarked};
 
     ghost Value = { ActiveView };
 
-    ghost view = { λ a. record { admissions = undelayed a.admissions; timeouts = a.timeouts } };
+    ghost view = { λ a. record {
+      admissions = plain a.admissions;
+      timeouts = a.timeouts;
+      flushing = flushing_in a.admissions;
+    } };
 
     ghost invariant = { λ a. AreMarked a.admissions a.timeouts };
 }
@@ -52,8 +58,9 @@ fn disarm(admissions: &mut Queues, timeouts: &mut TimeoutList, item: u32)
     requires item { item < admissions.old.items }
     requires marked { AreMarked admissions.old timeouts.old }
     ensures marked { AreMarked admissions.new timeouts.new }
-    ensures admissions { undelayed admissions.new ≡ undelayed admissions.old }
+    ensures admissions { plain admissions.new ≡ plain admissions.old }
     ensures timeouts { timeouts.new ≡ spec.disarm timeouts.old item }
+    ensures flushing { flushing_in admissions.new ≡ flushing_in admissions.old }
 {
     let word = admissions.flags(item);
     if word.contains(BusyFlags::DELAYED) {
@@ -67,6 +74,7 @@ impl Active {
     pub fn new(alloc: Global, items: u32, queues: u32) -> Result<Active, NoMemory>
         ensures admissions { IfOk result (λ a. a.admissions ≡ nothing_open items queues) }
         ensures timeouts { IfOk result (λ a. a.timeouts ≡ nothing_armed items) }
+        ensures flushing { IfOk result (λ a. a.flushing ≡ replicate items false) }
     {
         let admissions = Queues::new(alloc, items, queues)?;
         let timeouts = TimeoutList::new(alloc, items)?;
@@ -89,6 +97,28 @@ impl Active {
             cancelling: word.contains(BusyFlags::CANCELING),
             waits: word.contains(BusyFlags::QUEUED),
         }
+    }
+
+    /// The busy flags of the item: its word.
+    pub fn flags(&self, item: u32) -> BusyFlags
+        requires { item < self.now.admissions.items }
+        ensures { result.0 ≡ busy_flags (is_running self.now.admissions item)
+            (marks_of self.now.admissions item).cancelling (is_queued self.now.admissions item)
+            (is_armed self.now.timeouts item) (slice_index_or self.now.flushing item false) }
+    {
+        self.admissions.flags(item)
+    }
+
+    /// Marks the item as being flushed, or as not being flushed.
+    pub fn mark_flushing(&mut self, item: u32, flushing: bool)
+        requires { item < self.old.admissions.items }
+        ensures admissions { self.new.admissions ≡ self.old.admissions }
+        ensures timeouts { self.new.timeouts ≡ self.old.timeouts }
+        ensures flushing { self.new.flushing ≡ set self.old.flushing item flushing }
+    {
+        let mut word = self.admissions.flags(item);
+        word.set(BusyFlags::FLUSHING, flushing);
+        self.admissions.mark(item, word);
     }
 
     /// Whether the item is armed, by its word.
@@ -183,6 +213,7 @@ impl Active {
         requires above { IsAbove number self.old.admissions }
         ensures admissions { self.new.admissions ≡ admit self.old.admissions item queue number }
         ensures timeouts { self.new.timeouts ≡ self.old.timeouts }
+        ensures flushing { self.new.flushing ≡ self.old.flushing }
     {
         self.admissions.admit(item, queue, number);
     }
@@ -193,22 +224,24 @@ impl Active {
         ensures reply { result ≡ option_map tickets.pair_of (next self.old.admissions queue) }
         ensures admissions { self.new.admissions ≡ begin self.old.admissions queue }
         ensures timeouts { self.new.timeouts ≡ self.old.timeouts }
+        ensures flushing { self.new.flushing ≡ self.old.flushing }
     {
         self.admissions.begin(queue)
     }
 
-    /// What the queue runs ends, and its item is marked as armed at most.
+    /// What the queue runs ends, and its item isn't marked as cancelling any more.
     pub fn end(&mut self, queue: u32) -> Option<(u32, u64)>
         requires queue { queue < self.old.admissions.queues }
         requires known { IfSome (run self.old.admissions queue) (λ t. t.item < self.old.admissions.items) }
         ensures reply { result ≡ option_map tickets.pair_of (run self.old.admissions queue) }
         ensures admissions { self.new.admissions ≡ run_over self.old.admissions queue }
         ensures timeouts { self.new.timeouts ≡ self.old.timeouts }
+        ensures flushing { self.new.flushing ≡ self.old.flushing }
     {
         let (item, number) = self.admissions.end(queue)?;
         let word = self.admissions.flags(item);
         self.admissions
-            .mark(item, word.intersection(BusyFlags::DELAYED));
+            .mark(item, word.difference(BusyFlags::CANCELING));
         Some((item, number))
     }
 
@@ -218,6 +251,7 @@ impl Active {
         requires free { is_armed self.old.timeouts item ≡ false }
         ensures admissions { self.new.admissions ≡ self.old.admissions }
         ensures timeouts { self.new.timeouts ≡ arm self.old.timeouts item queue deadline }
+        ensures flushing { self.new.flushing ≡ self.old.flushing }
     {
         self.timeouts.arm(item, queue, deadline);
         let word = self.admissions.flags(item);
@@ -229,6 +263,7 @@ impl Active {
         requires { item < self.old.admissions.items }
         ensures admissions { self.new.admissions ≡ self.old.admissions }
         ensures timeouts { self.new.timeouts ≡ disarm self.old.timeouts item }
+        ensures flushing { self.new.flushing ≡ self.old.flushing }
     {
         disarm(&mut self.admissions, &mut self.timeouts, item);
     }
@@ -240,6 +275,7 @@ impl Active {
             ≡ option_map spec.pair_of (due_first now self.old.timeouts.live) }
         ensures admissions { self.new.admissions ≡ self.old.admissions }
         ensures timeouts { self.new.timeouts ≡ drop_due self.old.timeouts now }
+        ensures flushing { self.new.flushing ≡ self.old.flushing }
         ensures known { IfSome result (λ t. t.0 < self.old.admissions.items) }
     {
         let (item, queue) = self.timeouts.due(now)?;
@@ -254,11 +290,13 @@ impl Active {
         requires { item < self.old.admissions.items }
         ensures admissions { self.new.admissions ≡ cancelled self.old.admissions item }
         ensures timeouts { self.new.timeouts ≡ disarm self.old.timeouts item }
+        ensures flushing { self.new.flushing ≡ self.old.flushing }
     {
         disarm(&mut self.admissions, &mut self.timeouts, item);
         self.admissions.drop_item(item);
-        if self.admissions.flags(item).contains(BusyFlags::RUNNING) {
-            self.admissions.mark(item, BusyFlags::CANCELING);
+        let word = self.admissions.flags(item);
+        if word.contains(BusyFlags::RUNNING) {
+            self.admissions.mark(item, word.union(BusyFlags::CANCELING));
         }
     }
 }

@@ -12,16 +12,16 @@ ghost use Rattle.zk_work.specs.Engine.{item_of, answer_of, MayAdmit, admitted, s
 
 use crate::active::{Active, settle};
 use crate::touched::tell_items;
-use crate::waits::{close, is_flushing, may_close};
+use crate::waits::{close, mark_flushing, may_close};
 use bitflags::Flags;
 use std::alloc::Global;
 use std::marker::Model;
 use zk_base::{Engine, Listed, NoMemory, Who, push_within};
 use zk_model_work::{
     BusyFlags, Change, Closing, Expiry, Item, Queue, Submitted, Wait, WorkOp, WorkReply, WorkState,
-    cancel_start_reply, cancel_wait, change, drain, drain_reply, drain_wait, flags,
-    flush_start_reply, flush_wait, fresh_queues, is_pending, is_worker, put_wait, remaining,
-    start_reply, submission, unplug_reply,
+    cancel_start_reply, cancel_wait, change, drain, drain_reply, drain_wait, flush_start_reply,
+    flush_wait, fresh_queues, is_pending, is_worker, put_wait, remaining, start_reply, submission,
+    unplug_reply,
 };
 
 /// What an operation answers, where there is memory: its reply, where it is possible.
@@ -54,6 +54,7 @@ pub struct WorkEngine {
 impl Model for WorkEngine {
     ghost use Rattle.std.specs.Prelude.{◌≡◌, ◌+◌, ◌-◌, ◌^◌, ◌≤◌, length, vec_len, vec_capacity};
     ghost use Rattle.zk_work.specs.EngineState.{EngineState, EngineView};
+    ghost use Rattle.zk_work.specs.Flushing.{AreFlushing};
 
     ghost Value = { EngineView };
 
@@ -77,6 +78,7 @@ impl Model for WorkEngine {
       runs : a.running ≤ 2 ^ 32;
       items : length a.last.items ≡ a.active.admissions.items;
       touched : a.active.admissions.items + 1 ≤ vec_capacity a.touched;
+      flushing : AreFlushing a.made a.active.admissions a.active.flushing a.waits.items;
     } };
 }
 
@@ -225,14 +227,12 @@ impl WorkEngine {
         Some(WorkReply::Sub(answer))
     }
 
-    /// The busy flags of the item.
+    /// The busy flags of the item: its word.
     fn flags(&self, item: u32) -> BusyFlags
         requires item { item < self.now.state.active.items }
         ensures { result.0 ≡ flags_of self.now.state item }
     {
-        let armed = self.active.is_armed(item);
-        let flushing = is_flushing(&self.active, &self.waits, item);
-        flags(self.item(item), armed, flushing)
+        self.active.flags(item)
     }
 
     fn cancel(&mut self, who: Who, item: u32) -> Option<WorkReply>
@@ -243,6 +243,7 @@ impl WorkEngine {
         ensures room { self.new.room ≡ self.old.room }
     {
         self.active.cancel(item);
+        mark_flushing(&mut self.active, &self.waits, item);
         settle(&self.active, &mut self.queues);
         self.entries += 1;
         Some(WorkReply::Flags(self.flags(item).bits()))
@@ -265,6 +266,7 @@ impl WorkEngine {
         let wait = cancel_wait(self.entries, who, run);
         put_wait(&mut self.waits, wait)?;
         self.active.cancel(item);
+        mark_flushing(&mut self.active, &self.waits, item);
         settle(&self.active, &mut self.queues);
         self.entries += 1;
         Ok(Some(cancel_start_reply(flags.bits(), run.is_some())))
@@ -288,6 +290,7 @@ impl WorkEngine {
         let number = waiting.or(self.active.running(item));
         let wait = flush_wait(self.entries, who, number);
         put_wait(&mut self.waits, wait)?;
+        mark_flushing(&mut self.active, &self.waits, item);
         self.entries += 1;
         Ok(Some(flush_start_reply(number)))
     }
@@ -616,6 +619,7 @@ impl WorkEngine {
             return None;
         }
         let (item, number) = self.active.begin(queue)?;
+        mark_flushing(&mut self.active, &self.waits, item);
         self.running += 1;
         self.entries += 1;
         Some(WorkReply::Run(item, number))
@@ -631,7 +635,8 @@ impl WorkEngine {
         if !is_worker(&self.queues, queue, who.number) {
             return None;
         }
-        self.active.end(queue)?;
+        let (item, _) = self.active.end(queue)?;
+        mark_flushing(&mut self.active, &self.waits, item);
         settle(&self.active, &mut self.queues);
         self.running -= 1;
         self.entries += 1;

@@ -1,4 +1,4 @@
-ghost use Rattle.std.specs.Prelude.{◌≡◌, ◌<◌, ◌≤◌, not, filter, vec_len, vec_capacity};
+ghost use Rattle.std.specs.Prelude.{◌≡◌, ◌<◌, ◌≤◌, not, filter, set, vec_len, vec_capacity};
 ghost use Rattle.std.specs.List.{list_any};
 ghost use Rattle.zk_model_work.specs.Answers.{closes};
 ghost use Rattle.zk_work.specs.Engine.{is_number, flushes, is_flushing, has_come, left_waits};
@@ -27,14 +27,29 @@ fn flushes(waiting: Option<u64>, running: Option<u64>, awaited: Awaited) -> bool
     }
 }
 
-/// Whether a flush waits for an admission of the item.
-pub fn is_flushing(active: &Active, waits: &[Wait], item: u32) -> bool
+/// Whether a flush waits for an admission of the item. Where nobody waits, the item isn't asked.
+fn is_flushing(active: &Active, waits: &[Wait], item: u32) -> bool
     requires { item < active.now.admissions.items }
     ensures { result ≡ is_flushing active.now.admissions waits.now item }
 {
+    if waits.is_empty() {
+        return false;
+    }
     let waiting = active.waiting(item);
     let running = active.running(item);
     waits.iter().any(|w| flushes(waiting, running, w.awaited))
+}
+
+/// The word of the item says whether a flush waits for an admission of it.
+pub fn mark_flushing(active: &mut Active, waits: &[Wait], item: u32)
+    requires { item < active.old.admissions.items }
+    ensures admissions { active.new.admissions ≡ active.old.admissions }
+    ensures timeouts { active.new.timeouts ≡ active.old.timeouts }
+    ensures flushing { active.new.flushing
+        ≡ set active.old.flushing item (is_flushing active.old.admissions waits.now item) }
+{
+    let flushing = is_flushing(active, waits, item);
+    active.mark_flushing(item, flushing);
 }
 
 /// Whether what is awaited has come, where it is of this kind.

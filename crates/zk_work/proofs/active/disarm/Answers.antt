@@ -3,8 +3,8 @@ use Rattle.std.specs.Int.RustNames.{bit_and}
 use Rattle.zk_queue.specs.Open.{Open, mark, marks_of, is_running, is_queued}
 use Rattle.zk_queue.specs.Words.{has_flag}
 use Rattle.zk_queue.proofs.Bits.{flag-delayed}
-use Rattle.zk_work.specs.Active.{undelayed, AreMarked}
-use Rattle.zk_work.proofs.Marked.{disarmed-marked, disarmed-undelayed, disarmed-none}
+use Rattle.zk_work.specs.Active.{plain, flushing_in, AreMarked}
+use Rattle.zk_work.proofs.Marked.{disarmed-marked, disarmed-plain, disarmed-flushing, disarmed-none}
 use Rattle.zk_work.proofs.active.disarm.Goals as goal
 
 pub returns-then-contains-clause-marked : goal.returns-then-contains-clause-marked
@@ -17,7 +17,7 @@ returns-then-contains-clause-marked c =
 pub returns-then-contains-clause-admissions : goal.returns-then-contains-clause-admissions
 returns-then-contains-clause-admissions c =
     let word = c.difference.ensures tt ∙ ap (λ n. bit_and n (2 ^ 8 - 1 - 8)) c.flags-word.ensures in
-    ap undelayed c.mark.ensures ∙ disarmed-undelayed c.args.admissions.now c.args.item c.difference.result.0 word
+    ap plain c.mark.ensures ∙ disarmed-plain c.args.admissions.now c.args.item c.difference.result.0 word
 
 pub returns-else-contains-clause-timeouts : goal.returns-else-contains-clause-timeouts
 returns-else-contains-clause-timeouts c =
@@ -27,3 +27,8 @@ returns-else-contains-clause-timeouts c =
     (sym (c.requires.marked.delayed c.args.item c.requires.item)
     ∙ sym (flag-delayed (is_running o c.args.item) m.cancelling (is_queued o c.args.item) m.delayed m.flushing)
     ∙ ap (λ n. has_flag n 8) (sym c.flags-word.ensures) ∙ sym (c.contains.ensures tt) ∙ c.if-contains.false)
+
+pub returns-then-contains-clause-flushing : goal.returns-then-contains-clause-flushing
+returns-then-contains-clause-flushing c =
+    let word = c.difference.ensures tt ∙ ap (λ n. bit_and n (2 ^ 8 - 1 - 8)) c.flags-word.ensures in
+    ap flushing_in c.mark.ensures ∙ disarmed-flushing c.args.admissions.now c.args.item c.difference.result.0 word

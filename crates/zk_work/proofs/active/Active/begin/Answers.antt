@@ -1,7 +1,7 @@
 use Rattle.std.proofs.Common.{sym, ap, subst, ◌∙◌}
 use Rattle.zk_queue.specs.Open.{Open, begin}
-use Rattle.zk_work.specs.Active.{ActiveView, undelayed, AreMarked}
-use Rattle.zk_work.proofs.Marked.{undelayed-begin, marked-begin}
+use Rattle.zk_work.specs.Active.{ActiveView, plain, flushing_in, AreMarked}
+use Rattle.zk_work.proofs.Marked.{plain-begin, flushing-begin, marked-begin}
 use Rattle.zk_work.proofs.active.Active.begin.Goals as goal
 
 pub invariant_of-self : goal.invariant_of-self
@@ -11,5 +11,10 @@ invariant_of-self c =
 
 pub returns-clause-admissions : goal.returns-clause-admissions
 returns-clause-admissions c =
-    ap undelayed c.begin.ensures.next ∙ undelayed-begin c.self.inside.admissions c.args.queue
+    ap plain c.begin.ensures.next ∙ plain-begin c.self.inside.admissions c.args.queue
     ∙ ap (λ (v : ActiveView). begin v.admissions c.args.queue) c.self.view_is
+
+pub returns-clause-flushing : goal.returns-clause-flushing
+returns-clause-flushing c =
+    ap flushing_in c.begin.ensures.next ∙ flushing-begin c.self.inside.admissions c.args.queue
+    ∙ ap (λ (v : ActiveView). v.flushing) c.self.view_is

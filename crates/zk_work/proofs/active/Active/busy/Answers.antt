@@ -3,7 +3,7 @@ use Rattle.zk_queue.specs.Open.{ItemMarks, marks_of, is_running, is_queued}
 use Rattle.zk_queue.specs.Words.{has_flag}
 use Rattle.zk_queue.proofs.Bits.{flag-running, flag-cancelling, flag-queued}
 use Rattle.zk_work.specs.Active.{ActiveView}
-use Rattle.zk_work.proofs.Marked.{marks-undelayed}
+use Rattle.zk_work.proofs.Marked.{marks-plain}
 use Rattle.zk_work.proofs.active.Active.busy.Goals as goal
 
 pub returns-clause-runs : goal.returns-clause-runs
@@ -20,7 +20,7 @@ returns-clause-cancelling c =
     let m = marks_of o c.args.item in
     c.contains-2.ensures tt ∙ ap (λ n. has_flag n 2) c.flags-word.ensures
     ∙ flag-cancelling (is_running o c.args.item) m.cancelling (is_queued o c.args.item) m.delayed m.flushing
-    ∙ sym (ap (λ (m : ItemMarks). m.cancelling) (marks-undelayed o c.args.item))
+    ∙ sym (ap (λ (m : ItemMarks). m.cancelling) (marks-plain o c.args.item))
     ∙ ap (λ (v : ActiveView). (marks_of v.admissions c.args.item).cancelling) c.self.view_is
 
 pub returns-clause-waits : goal.returns-clause-waits

@@ -2,8 +2,8 @@ use Rattle.std.proofs.Common.{◌-◌, ◌^◌, sym, ap, subst, ◌∙◌, arith
 use Rattle.std.specs.Int.RustNames.{bit_and}
 use Rattle.zk_queue.specs.Open.{Open, mark, flags}
 use Rattle.zk_time.specs.Timeouts.{due_first, IsOrdered}
-use Rattle.zk_work.specs.Active.{ActiveView, undelayed, AreMarked}
-use Rattle.zk_work.proofs.Marked.{due-found, due-none, due-marked, due-within, disarmed-undelayed, no-pair}
+use Rattle.zk_work.specs.Active.{ActiveView, plain, flushing_in, AreMarked}
+use Rattle.zk_work.proofs.Marked.{due-found, due-none, due-marked, due-within, disarmed-plain, disarmed-flushing, no-pair}
 use Rattle.zk_work.proofs.active.Active.due.Goals as goal
 
 pub invariant_of-self : goal.invariant_of-self
@@ -45,7 +45,7 @@ invariant_of-self-2 c =
 pub returns-clause-admissions : goal.returns-clause-admissions
 returns-clause-admissions c =
     let word = c.difference.ensures tt ∙ ap (λ n. bit_and n (2 ^ 8 - 1 - 8)) c.flags-word.ensures in
-    ap undelayed c.mark.ensures ∙ disarmed-undelayed c.self.inside.admissions c.in_ok-item.item c.difference.result.0 word
+    ap plain c.mark.ensures ∙ disarmed-plain c.self.inside.admissions c.in_ok-item.item c.difference.result.0 word
     ∙ ap (λ (v : ActiveView). v.admissions) c.self.view_is
 
 pub returns-clause-known : goal.returns-clause-known
@@ -57,3 +57,9 @@ returns-clause-known c =
     let same = found.2 in
     let items = ap (λ (v : ActiveView). v.admissions.items) c.self.view_is in
     omega arith
+
+pub returns-clause-flushing : goal.returns-clause-flushing
+returns-clause-flushing c =
+    let word = c.difference.ensures tt ∙ ap (λ n. bit_and n (2 ^ 8 - 1 - 8)) c.flags-word.ensures in
+    ap flushing_in c.mark.ensures ∙ disarmed-flushing c.self.inside.admissions c.in_ok-item.item c.difference.result.0 word
+    ∙ ap (λ (v : ActiveView). v.flushing) c.self.view_is
