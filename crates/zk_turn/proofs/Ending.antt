@@ -36,9 +36,11 @@ module _ {S O R T : Type 0} (legal : T → List (Entry O R) → Type 0) (fits : 
     pub mine : own v.players v.seen ≡ v.seen
     pub short : length v.seen ≤ room_of_a_pass * count
 
+module _ {S O R T : Type 0} (legal : T → List (Entry O R) → Type 0) (fits : S → T → List (Entry O R) → Type 0)
+    (word : T → List (Entry O R) → ℕ → ℕ) (width : ℕ) where
   ends : (origin : T) (count id : ℕ) (v : View O R T) (s : State (Option S) (View O R T)) (slot : Option S) →
-      Turn legal fits origin count s → get_elem? s.views id ≡ some v → v.stage ≡ Idle → length v.players ≡ count →
-      ((x : Option S) → get_elem? s.homes 0 ≡ some (some x) → slot ≡ x) → ComesBack origin count v slot
+      Turn legal fits word width origin count s → get_elem? s.views id ≡ some v → v.stage ≡ Idle → length v.players ≡ count →
+      ((x : Option S) → get_elem? s.homes 0 ≡ some (some x) → slot ≡ x) → ComesBack legal fits origin count v slot
   ends origin count id v s slot r at idle all same =
       ⊎_elim ended (λ one. absurd (nobody one.place one.view one.there one.holds)) r.place where
         no_player : (j : ℕ) (u : View O R T) → j ≢ id → get_elem? s.views j ≡ some u → length u.players ≡ 0
@@ -75,7 +77,7 @@ module _ {S O R T : Type 0} (legal : T → List (Entry O R) → Type 0) (fits : 
             let made = r.made in
             let times = ap (λ n. room_of_a_pass * n) r.players in omega arith
 
-        ended : IsHome legal fits origin r.history s → ComesBack origin count v slot
+        ended : IsHome legal fits origin r.history r.flight s → ComesBack legal fits origin count v slot
         ended home = record {
           service = home.service;
           there = same (Some home.service) home.there;
@@ -87,7 +89,7 @@ module _ {S O R T : Type 0} (legal : T → List (Entry O R) → Type 0) (fits : 
 
   pub comes_back : (origin : T) (count id : ℕ) (v : View O R T) (words : List ℕ) (slots : List (Option S))
       (slot : Option S) → v.stage ≡ Idle → length v.players ≡ count →
-      Final (Seen (Turn legal fits origin count) id v) words slots → get_elem? slots 0 ≡ some slot → ComesBack origin count v slot
+      Final (Seen (Turn legal fits word width origin count) id v) words slots → get_elem? slots 0 ≡ some slot → ComesBack legal fits origin count v slot
   comes_back origin count id v words slots slot idle all last there =
       ends origin count id v last.0 slot last.1.0 last.1.1 idle all (λ x home. some-injective slot x (sym there
       ∙ last.4 0 x home))
@@ -120,10 +122,10 @@ service_back {S} {O} {R} {T} legal start history origin count v slot service bac
 
 -- both at once: what the service is that was in the slot
 pub service_ends : {S O R T : Type 0} (legal : T → List (Entry O R) → Type 0) (start : S → T)
-    (history : S → List (Entry O R)) (origin : T) (count id : ℕ) (v : View O R T) (words : List ℕ)
+    (history : S → List (Entry O R)) (word : T → List (Entry O R) → ℕ → ℕ) (width : ℕ) (origin : T) (count id : ℕ) (v : View O R T) (words : List ℕ)
     (slots : List (Option S)) (slot : Option S) (service : S) → v.stage ≡ Idle → length v.players ≡ count →
-    Final (Seen (Turn legal (Fits start history) origin count) id v) words slots → get_elem? slots 0 ≡ some slot →
+    Final (Seen (Turn legal (Fits start history) word width origin count) id v) words slots → get_elem? slots 0 ≡ some slot →
     slot ≡ Some service → IsTheService legal start history origin count v service
-service_ends legal start history origin count id v words slots slot service idle all last there is =
+service_ends legal start history word width origin count id v words slots slot service idle all last there is =
     service_back legal start history origin count v slot service
-    (comes_back legal (Fits start history) origin count id v words slots slot idle all last there) is
+    (comes_back legal (Fits start history) word width origin count id v words slots slot idle all last there) is

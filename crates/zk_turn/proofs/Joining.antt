@@ -13,16 +13,17 @@ use Rattle.zk_turn.specs.declared.views.Stage.TheVariants.{Idle}
 use Rattle.zk_turn.specs.declared.views.View.{View}
 use Rattle.zk_turn.specs.Players.{has, is_by, longer}
 use Rattle.zk_turn.specs.Views.{joined, spent}
-use Rattle.zk_turn.specs.Turn.{ticket_count, HoldsTurn, SeatStands, AreApart, IsCovered, player_count, tickets_of, made_of, SomeHolds, Turn}
+use Rattle.zk_turn.specs.Turn.{ticket_count, HoldsTurn, SeatStands, AreApart, IsCovered, player_count, tickets_of, made_of, SomeHolds, LookStands, Turn}
 use Rattle.zk_turn.proofs.Players.{has-append, GoesOn-nobody, BothGoOn, GoesOn-longer}
 use Rattle.zk_turn.proofs.Seats.{at-same, at-set_there, sum-set, apart-turned, AllApart-set}
 use Rattle.zk_turn.proofs.Moving.{idle_holds_none, Turn-views}
 
-module _ {S O R T : Type 0} (legal : T → List (Entry O R) → Type 0) (fits : S → T → List (Entry O R) → Type 0) where
+module _ {S O R T : Type 0} (legal : T → List (Entry O R) → Type 0) (fits : S → T → List (Entry O R) → Type 0)
+    (word : T → List (Entry O R) → ℕ → ℕ) (width : ℕ) where
   pub merges : (origin : T) (count id other : ℕ) (v w : View O R T) → v.stage ≡ Idle → w.stage ≡ Idle → 0 < length v.players →
-      Joins (Turn legal fits origin count) id v other w (joined v w) spent
+      Joins (Turn legal fits word width origin count) id v other w (joined v w) spent
   merges origin count id other v w idle idle' some_one s r at differ at_after =
-      subst (λ (l : List (View O R T)). Turn legal fits origin count record { words = s.words; homes = s.homes; views = l })
+      subst (λ (l : List (View O R T)). Turn legal fits word width origin count record { words = s.words; homes = s.homes; views = l })
       (sym (set_comm s.views id other (joined v w) spent (λ same. differ (sym same)))) merged
     where
       at' : get_elem? s.views other ≡ some w
@@ -67,6 +68,12 @@ module _ {S O R T : Type 0} (legal : T → List (Entry O R) → Type 0) (fits : 
         parts = tt;
         start = λ many. absurd (omega arith);
       }
+
+      joined_looks : LookStands (word origin) width r.history r.flight (joined v w)
+      joined_looks = record { words = λ many. (r.looks id v at).words some_one; note = tt; holder = λ holds. absurd holds }
+
+      spent_looks : LookStands (word origin) width r.history r.flight (spent {O = O} {R = R} {T = T})
+      spent_looks = record { words = λ many. absurd (omega arith); note = tt; holder = λ holds. absurd holds }
 
       spent_apart : (u : View O R T) → AreApart spent u
       spent_apart u = record { players = λ n a b. absurd (cc); tickets = λ t a b. a }
@@ -129,8 +136,8 @@ module _ {S O R T : Type 0} (legal : T → List (Entry O R) → Type 0) (fits : 
             ∙ one.there;
       }
 
-      merged : Turn legal fits origin count record { words = s.words; homes = s.homes; views = set without id (joined v w) }
-      merged = Turn-views legal fits origin count s r (set without id (joined v w))
+      merged : Turn legal fits word width origin count record { words = s.words; homes = s.homes; views = set without id (joined v w) }
+      merged = Turn-views legal fits word width origin count s r (set without id (joined v w))
           (sums player_count (let long = length-append v.players w.players in omega arith))
           (sums tickets_of (let first = ap ticket_count idle in let second = ap ticket_count idle' in omega arith))
           (sums made_of (omega arith))
@@ -141,6 +148,12 @@ module _ {S O R T : Type 0} (legal : T → List (Entry O R) → Type 0) (fits : 
           (at_set without id j (joined v w) u there))
           (AllApart-set without id (joined v w)
           (AllApart-set s.views other spent r.apart (λ j u else there. spent_apart u)) joined_apart)
+          (λ j u there. ⊎_elim
+          (λ q. subst (λ (x : View O R T). LookStands (word origin) width r.history r.flight x) q.1 joined_looks)
+          (λ q. ⊎_elim
+          (λ t. subst (λ (x : View O R T). LookStands (word origin) width r.history r.flight x) t.1 spent_looks)
+          (λ t. r.looks j u t.1) (at_set s.views other j spent u q.1))
+          (at_set without id j (joined v w) u there))
           covers
           (λ free j u there. ⊎_elim (λ q. subst (λ (x : View O R T). HoldsTurn x.stage → ⊥) q.1 (λ h. h))
           (λ q. ⊎_elim (λ t. subst (λ (x : View O R T). HoldsTurn x.stage → ⊥) t.1 (λ h. h)) (λ t. free j u t.1)

@@ -1,9 +1,13 @@
 pub mod Calls
+mod Counting
 pub mod Dealing
 mod Ending
+mod Glances
 mod Joining
 mod Keeping
+mod Looking
 mod Moving
 mod Passes
 mod Players
 mod Seats
+mod Words

@@ -14,9 +14,12 @@ use Rattle.zk_base.specs.declared.ids.Who.{Who}
 use Rattle.zk_base.specs.declared.ids.Entry.{Entry}
 use Rattle.zk_turn.specs.declared.views.Stage.{Stage}
 use Rattle.zk_turn.specs.declared.views.Stage.TheVariants.{Idle, Waiting, Holding}
+use Rattle.zk_turn.specs.declared.views.Flight.{Flight}
 use Rattle.zk_turn.specs.declared.views.View.{View}
 use Rattle.zk_turn.specs.Players.{has, is_by, room_of_a_pass}
-use Rattle.zk_turn.specs.Turn.{ticket_count, HasTicket, HoldsTurn, TicketStands, SeatStands, AreApart, IsCovered, NoneHolds, SomeHolds, player_count, tickets_of, made_of, IsHome, Turn}
+use Rattle.zk_turn.specs.Turn.{ticket_count, HasTicket, HoldsTurn, TicketStands, SeatStands, AreApart, IsCovered, NoneHolds, SomeHolds, player_count, tickets_of, made_of, LookStands, IsHome, Turn}
+use Rattle.zk_turn.specs.Words.{WordStands}
+use Rattle.zk_turn.specs.Views.{staged}
 use Rattle.zk_turn.proofs.Seats.{at-same, at-set_there, sum-set, sum-times, AllApart, AllApart-set}
 
 -- the words after a step on one of them
@@ -33,7 +36,21 @@ word-next words i n within is =
 pub word-same : (words : List ℕ) (i j n : ℕ) → get_or words j 0 ≡ n → get_or (set words i (get_or words i 0)) j 0 ≡ n
 word-same words i j n is = ap (λ ws. get_or ws j 0) (set-get_or words i 0) ∙ is
 
+-- a step on a word of the turn leaves those that are published, and a load leaves all
+pub word-above : (words : List ℕ) (i n index : ℕ) → i < 3 → get_or (set words i n) (3 + index) 0 ≡ get_or words (3 + index) 0
+word-above words i n index below = get_or-set_other words i (3 + index) n 0 (λ same. omega arith)
+
+pub word-loaded : (words : List ℕ) (i j : ℕ) → get_or (set words i (get_or words i 0)) j 0 ≡ get_or words j 0
+word-loaded words i j = ap (λ ws. get_or ws j 0) (set-get_or words i 0)
+
 module _ {O R T : Type 0} where
+  -- a seat that goes on to a stage without the turn
+  pub look-staged : (word : List (Entry O R) → ℕ → ℕ) (width : ℕ) (history : List (Entry O R)) (flight : Flight O R)
+      (v : View O R T) (stage : Stage) → (HoldsTurn stage → ⊥) → LookStands word width history flight v →
+      LookStands word width history flight (staged v stage)
+  look-staged word width history flight v stage free ok =
+      record { words = ok.words; note = ok.note; holder = λ holds. absurd (free holds) }
+
   -- what covers an entry still does where a seat's players stay
   covered-still : (views : List (View O R T)) (id : ℕ) (v w : View O R T) → get_elem? views id ≡ some v →
       w.players ≡ v.players → (e : Entry O R) → IsCovered views e → IsCovered (set views id w) e
@@ -151,9 +168,10 @@ module _ {O R : Type 0} where
       st ≡ Holding t → TicketStands history served drawn seen st → (t ≡ served) × (t < drawn) × (seen ≡ history)
   holding-stands history served drawn seen st t is ok = subst (λ x. TicketStands history served drawn seen x) is ok
 
-module _ {S O R T : Type 0} (legal : T → List (Entry O R) → Type 0) (fits : S → T → List (Entry O R) → Type 0) where
+module _ {S O R T : Type 0} (legal : T → List (Entry O R) → Type 0) (fits : S → T → List (Entry O R) → Type 0)
+    (word : T → List (Entry O R) → ℕ → ℕ) (width : ℕ) where
   -- the tickets out are no more than the players
-  pub few_out : (origin : T) (count : ℕ) (s : State (Option S) (View O R T)) (r : Turn legal fits origin count s) →
+  pub few_out : (origin : T) (count : ℕ) (s : State (Option S) (View O R T)) (r : Turn legal fits word width origin count s) →
       r.drawn ≤ r.served + 256
   few_out origin count s r =
       let most = sum-times 1 tickets_of player_count s.views (λ j u there. let player = (r.each j u there).player in
@@ -161,14 +179,14 @@ module _ {S O R T : Type 0} (legal : T → List (Entry O R) → Type 0) (fits : 
       let out = r.tickets in let all = r.players in let few = r.few in omega arith
 
   -- and the entries no more than all may add
-  pub short_history : (origin : T) (count : ℕ) (s : State (Option S) (View O R T)) (r : Turn legal fits origin count s) →
+  pub short_history : (origin : T) (count : ℕ) (s : State (Option S) (View O R T)) (r : Turn legal fits word width origin count s) →
       length r.history ≤ room_of_a_pass * 256
   short_history origin count s r =
       let most = sum-times room_of_a_pass made_of player_count s.views (λ j u there. (r.each j u there).room) in
       let made = r.made in let all = r.players in let few = r.few in omega arith
 
   -- while one has the ticket served, no other holds the turn or has that ticket
-  pub others_free : (origin : T) (count : ℕ) (s : State (Option S) (View O R T)) (r : Turn legal fits origin count s)
+  pub others_free : (origin : T) (count : ℕ) (s : State (Option S) (View O R T)) (r : Turn legal fits word width origin count s)
       (id : ℕ) (v : View O R T) → get_elem? s.views id ≡ some v → HasTicket v.stage r.served →
       (j : ℕ) (u : View O R T) → j ≢ id → get_elem? s.views j ≡ some u →
       (HoldsTurn u.stage → ⊥) × (HasTicket u.stage r.served → ⊥)
@@ -176,12 +194,20 @@ module _ {S O R T : Type 0} (legal : T → List (Entry O R) → Type 0) (fits : 
       let apart = (r.apart id j v u (λ same. else (sym same)) at there).tickets r.served mine in
       ((λ holds. apart (holder_ticket r.history r.served r.drawn u.seen u.stage (r.each j u there).ticket holds)), apart)
 
+  -- the published words are as they were where the history and what is in flight are
+  pub published_still : (origin : T) (count : ℕ) (s : State (Option S) (View O R T)) (r : Turn legal fits word width origin count s)
+      (words : List ℕ) → ((index : ℕ) → get_or words (3 + index) 0 ≡ get_or s.words (3 + index) 0) →
+      (index : ℕ) → index < width →
+      WordStands (λ h. word origin h index) r.history r.flight index (get_or words (3 + index) 0)
+  published_still origin count s r words same index below =
+      subst (λ n. WordStands (λ h. word origin h index) r.history r.flight index n) (sym (same index)) (r.published index below)
+
   -- what a changed table has to fulfil, beside what the views of the others say: its words, its history and its tickets
-  pub record Changed (origin : T) (count : ℕ) (s : State (Option S) (View O R T)) (r : Turn legal fits origin count s)
-      (v w : View O R T) (history : List (Entry O R)) (served drawn : ℕ) (words : List ℕ)
+  pub record Changed (origin : T) (count : ℕ) (s : State (Option S) (View O R T)) (r : Turn legal fits word width origin count s)
+      (v w : View O R T) (history : List (Entry O R)) (served drawn : ℕ) (flight : Flight O R) (words : List ℕ)
       (homes : List (maths.Option (Option S))) : Type 0 where
     pub players : w.players ≡ v.players
-    pub wide : 3 ≤ length words
+    pub wide : 3 + width ≤ length words
     pub slot : 0 < length homes
     pub ticket_word : get_or words 0 0 ≡ drawn % 2 ^ 64
     pub serving_word : get_or words 1 0 ≡ served % 2 ^ 64
@@ -190,23 +216,28 @@ module _ {S O R T : Type 0} (legal : T → List (Entry O R) → Type 0) (fits : 
     pub tickets : ticket_count w.stage + served + r.drawn ≡ ticket_count v.stage + r.served + drawn
     pub made : w.made + length r.history ≡ v.made + length history
     pub mine : SeatStands origin history served drawn w
+    pub look : LookStands (word origin) width history flight w
     pub covered : All (IsCovered s.views) history
 
-  pub moved : (origin : T) (count : ℕ) (s : State (Option S) (View O R T)) (r : Turn legal fits origin count s) (id : ℕ)
-      (v w : View O R T) (history : List (Entry O R)) (served drawn : ℕ)
+  pub moved : (origin : T) (count : ℕ) (s : State (Option S) (View O R T)) (r : Turn legal fits word width origin count s) (id : ℕ)
+      (v w : View O R T) (history : List (Entry O R)) (served drawn : ℕ) (flight : Flight O R)
       (words : List ℕ) (homes : List (maths.Option (Option S))) →
-      get_elem? s.views id ≡ some v → Changed origin count s r v w history served drawn words homes →
+      get_elem? s.views id ≡ some v → Changed origin count s r v w history served drawn flight words homes →
+      ((index : ℕ) → index < width → WordStands (λ h. word origin h index) history flight index (get_or words (3 + index) 0)) →
       ((j : ℕ) (u : View O R T) → j ≢ id → get_elem? s.views j ≡ some u → SeatStands origin r.history r.served r.drawn u →
       SeatStands origin history served drawn u) →
       ((j : ℕ) (u : View O R T) → j ≢ id → get_elem? s.views j ≡ some u → (t : ℕ) → HasTicket w.stage t →
       HasTicket u.stage t → ⊥) →
-      IsHome legal fits origin history record { words = words; homes = homes; views = set s.views id w }
+      ((j : ℕ) (u : View O R T) → j ≢ id → get_elem? s.views j ≡ some u →
+      LookStands (word origin) width r.history r.flight u → LookStands (word origin) width history flight u) →
+      IsHome legal fits origin history flight record { words = words; homes = homes; views = set s.views id w }
       ⊎ SomeHolds (set s.views id w) →
-      Turn legal fits origin count record { words = words; homes = homes; views = set s.views id w }
-  moved origin count s r id v w history served drawn words homes at c others differ place = record {
+      Turn legal fits word width origin count record { words = words; homes = homes; views = set s.views id w }
+  moved origin count s r id v w history served drawn flight words homes at c published others differ others_look place = record {
     history = history;
     served = served;
     drawn = drawn;
+    flight = flight;
     words = c.wide;
     slot = c.slot;
     ticket_word = c.ticket_word;
@@ -223,6 +254,10 @@ module _ {S O R T : Type 0} (legal : T → List (Entry O R) → Type 0) (fits : 
     apart = AllApart-set s.views id w r.apart mine_apart;
     covered = All-weaker (IsCovered s.views) (IsCovered (set s.views id w)) (covered-still s.views id v w at c.players)
         history c.covered;
+    published = published;
+    looks = λ j u there. ⊎_elim
+        (λ t. subst (λ (x : View O R T). LookStands (word origin) width history flight x) t.1 c.look)
+        (λ t. others_look j u t.0 t.1 (r.looks j u t.1)) (at_set s.views id j w u there);
     place = place;
   } where
     mine_apart : (j : ℕ) (u : View O R T) → j ≢ id → get_elem? s.views j ≡ some u → AreApart w u
@@ -231,18 +266,20 @@ module _ {S O R T : Type 0} (legal : T → List (Entry O R) → Type 0) (fits : 
         record { players = λ n x y. was.players n (ap (λ ws. has ws n) (sym c.players) ∙ x) y; tickets = differ j u else there }
 
   -- the rule over other views of the same table: the same players, tickets and entries stand in them
-  pub Turn-views : (origin : T) (count : ℕ) (s : State (Option S) (View O R T)) (r : Turn legal fits origin count s)
+  pub Turn-views : (origin : T) (count : ℕ) (s : State (Option S) (View O R T)) (r : Turn legal fits word width origin count s)
       (views : List (View O R T)) →
       sum_by player_count views ≡ sum_by player_count s.views → sum_by tickets_of views ≡ sum_by tickets_of s.views →
       sum_by made_of views ≡ sum_by made_of s.views →
       ((j : ℕ) (u : View O R T) → get_elem? views j ≡ some u → SeatStands origin r.history r.served r.drawn u) → AllApart views →
+      ((j : ℕ) (u : View O R T) → get_elem? views j ≡ some u → LookStands (word origin) width r.history r.flight u) →
       ((e : Entry O R) → IsCovered s.views e → IsCovered views e) →
       (NoneHolds s.views → NoneHolds views) → (SomeHolds s.views → SomeHolds views) →
-      Turn legal fits origin count record { words = s.words; homes = s.homes; views = views }
-  Turn-views origin count s r views players tickets made each apart covers none some_one = record {
+      Turn legal fits word width origin count record { words = s.words; homes = s.homes; views = views }
+  Turn-views origin count s r views players tickets made each apart looks covers none some_one = record {
     history = r.history;
     served = r.served;
     drawn = r.drawn;
+    flight = r.flight;
     words = r.words;
     slot = r.slot;
     ticket_word = r.ticket_word;
@@ -256,8 +293,16 @@ module _ {S O R T : Type 0} (legal : T → List (Entry O R) → Type 0) (fits : 
     each = each;
     apart = apart;
     covered = All-weaker (IsCovered s.views) (IsCovered views) covers r.history r.covered;
+    published = r.published;
+    looks = looks;
     place = ⊎_elim
-        (λ home. inl (record { service = home.service; there = home.there; fit = home.fit; free = none home.free }))
+        (λ home. inl (record {
+          service = home.service;
+          there = home.there;
+          fit = home.fit;
+          rest = home.rest;
+          free = none home.free;
+        }))
         (λ one. inr (some_one one))
         r.place;
   }

@@ -1,13 +1,15 @@
 -- From the steps of a seat to turns and passes: what a seat knows from step to step, and what that says of the turn and
 -- of the pass.
 use Rattle.zk_base.specs.Limits.{most_entries}
-use Rattle.std.proofs.Common.{◌≡◌, ℕ, ◌+◌, ◌*◌, ◌-◌, ◌<◌, ◌≤◌, ◌^◌, max, Bool, true, false, ◌||◌, Some, None, Option, List, [], ◌∷◌, ◌++◌, length, refl, sym, ap, subst, ◌∙◌, arith, eq-eqb}
+use Rattle.std.proofs.Common.{◌≡◌, ℕ, ◌+◌, ◌*◌, ◌-◌, ◌<◌, ◌≤◌, max, Bool, true, false, ◌||◌, Some, None, Option, List, [], ◌∷◌, ◌++◌, length, drop, refl, sym, ap, subst, ◌∙◌, arith, eq-eqb}
+use Rattle.std.proofs.Math.Seq.{drop-append_seam}
 use Rattle.std.proofs.lemmas.List.{length-append}
 use Rattle.atomic_table.specs.declared.shared.Seat.{Seat}
 use Rattle.atomic_table.specs.Table.{Me, rest}
 use Rattle.zk_base.specs.declared.ids.Who.{Who}
 use Rattle.zk_base.specs.declared.ids.Entry.{Entry}
 use Rattle.zk_base.specs.History.{entry, IsAbove}
+use Rattle.zk_base.specs.Touched.{LeavesOthers}
 use Rattle.zk_base.specs.Legal.{Machine, IsLegal, state_after}
 use Rattle.zk_base.proofs.Histories.{IsLegal-snoc}
 use Rattle.zk_turn.specs.declared.views.Stage.TheVariants.{Idle, Waiting}
@@ -16,9 +18,10 @@ use Rattle.zk_turn.specs.declared.pass.Pass.{Pass}
 use Rattle.zk_turn.specs.declared.held.Held.{Held}
 use Rattle.zk_turn.specs.declared.cell.Cell.{Cell}
 use Rattle.zk_turn.specs.Players.{is_by, room_of_a_pass}
-use Rattle.zk_turn.specs.Views.{staged, holding, with_entry, joined}
+use Rattle.zk_turn.specs.Views.{staged, holding, with_entry, in_flight, with_stamped, left, joined}
 use Rattle.zk_turn.specs.Steps.{Fits, out_with}
-use Rattle.zk_turn.specs.Passes.{HasAdded, added_count, IsPassOf, IsHeld, IsHeldOf, IsReady, MayPass, IsPublished, given_to}
+use Rattle.zk_turn.specs.Passes.{HasAdded, added_count, IsPassOf, IsHeld, IsHeldOf, IsReady, IsPublishing, MayPass, given_to}
+use Rattle.zk_turn.specs.Words.{at_rest, KeepsOthers}
 use Rattle.zk_turn.proofs.Players.{longer-either, length-longer}
 
 abbrev value_or : {S : Type 0} → S → Option S → S
@@ -29,6 +32,10 @@ abbrev first_slot : {S : Type 0} → Option S → List (ℕ × Option S) → Opt
 first_slot d [] = d
 first_slot d (slot ∷ slots) = slot.1
 
+-- the slot that a seat has out
+pub slot_again : {S : Type 0} (slots : List (ℕ × Option S)) (x : S) → slots ≡ out_with x → slots ≡ (0, Some x) ∷ rest slots
+slot_again {S} slots x is = is ∙ ap (λ (l : List (ℕ × Option S)). (0, Some x) ∷ rest l) (sym is)
+
 -- what came out of the slot is what was taken with the turn
 pub taken_out : {S : Type 0} (slots others others' : List (ℕ × Option S)) (x y : S) (o : Option S) →
     slots ≡ (0, Some x) ∷ others → slots ≡ (0, o) ∷ others' → o ≡ Some y → x ≡ y
@@ -38,11 +45,6 @@ same_start : {T : Type 0} (o : Option T) (a b : T) → o ≡ Some a → o ≡ So
 same_start o a b is is' = ap (value_or a) (sym is ∙ is')
 
 module _ {O R T : Type 0} where
-  -- what a seat knows once the entry that was added, if one was, is published
-  abbrev pub left : Bool → View O R T → List (Entry O R) → View O R T
-  left false v h = v
-  left true v h = with_entry v h
-
   left-seen : (added : Bool) (v : View O R T) (h : List (Entry O R)) → HasAdded added v.players v.seen h →
       (left added v h).seen ≡ h
   left-seen false v h is = sym is
@@ -57,6 +59,10 @@ module _ {O R T : Type 0} where
   left-made : (added : Bool) (v : View O R T) (h : List (Entry O R)) → (left added v h).made ≡ added_count added + v.made
   left-made false v h = omega arith
   left-made true v h = omega arith
+
+  left-rest : (added : Bool) (v : View O R T) (h : List (Entry O R)) → v.flight ≡ at_rest → (left added v h).flight ≡ at_rest
+  left-rest false v h rest = rest
+  left-rest true v h rest = refl
 
 module _ {S O R T : Type 0} where
   -- the seat with other knowledge
@@ -85,17 +91,17 @@ module _ {S O R T : Type 0} where
 
   -- the turn that comes of it
   pub held_now : (legal : T → List (Entry O R) → Type 0) (start : S → T) (history_of : S →
-      List (Entry O R)) (c : Cell S O R T) (p : Pass S O R T) (seat : Seat (Option S) (View O R T)) (x y : S)
+      List (Entry O R)) (keeps : S → List (Entry O R) → Type 0) (c : Cell S O R T) (p : Pass S O R T) (seat : Seat (Option S) (View O R T)) (x y : S)
       (drawn t : ℕ) (history : List (Entry O R)) → IsPassOf legal start c p → 0 < p.room →
       seat.table_id ≡ p.seat.table_id → seat.me ≡ in_turn p.seat.me.0 drawn t history →
       ((o : T) → p.seat.me.0.start ≡ Some o → Fits start history_of x o history × legal o history) →
       length history ≤ room_of_a_pass * 256 → x ≡ y →
-      IsHeldOf legal start history_of c record { seat = seat; service = y; who = p.who; room = p.room; added = false; looked = false }
-  held_now legal start history_of c p seat x y drawn t history of_cell some table knows told short same =
+      IsHeldOf legal start history_of keeps c record { seat = seat; service = y; who = p.who; room = p.room; added = false; looked = false }
+  held_now legal start history_of keeps c p seat x y drawn t history of_cell some table knows told short same =
       let v = p.seat.me.0 in
       let fits = told (start (given_to c)) of_cell.start in
       let fits_y = subst (λ z. Fits start history_of z (start (given_to c)) history) same fits.0 in
-      let now : IsHeld legal start history_of record {
+      let now : IsHeld legal start history_of keeps record {
         seat = knowing seat (in_turn v drawn t history);
         service = y;
         who = p.who;
@@ -113,10 +119,13 @@ module _ {S O R T : Type 0} where
         lawful = subst (λ s. legal s (history_of y)) (sym fits_y.start)
             (subst (λ l. legal (start (given_to c)) l) (sym fits_y.history) fits.1);
         short = short;
+        rest = refl;
+        kept = λ wrong. absurd (cc);
       } in
       record {
         table = table ∙ of_cell.table;
-        held = subst (λ (k : Me (Option S) (View O R T)). IsHeld legal start history_of record {
+        words = of_cell.words ∙ ap (λ (n : ℕ). 3 + n) (sym (ap (λ (k : Me (Option S) (View O R T)). k.0.words) knows));
+        held = subst (λ (k : Me (Option S) (View O R T)). IsHeld legal start history_of keeps record {
           seat = knowing seat k;
           service = y;
           who = p.who;
@@ -133,40 +142,68 @@ module _ {S O R T : Type 0} where
   back_in m m' x slots is = is ∙ ap (λ (l : List (ℕ × Option S)). (m.0, (0, Some x) ∷ rest l)) slots
 
   -- the entry may be published
-  pub ready_now : (legal : T → List (Entry O R) → Type 0) (start : S → T) (history_of : S →
-      List (Entry O R)) (h : Held S O R T) (m : Me (Option S) (View O R T)) →
-      IsHeld legal start history_of h → m ≡ (h.seat.me.0, out_with h.service) → h.added ≡ true → IsReady legal history_of m
-  ready_now legal start history_of h m held is added =
+  pub ready_now : (legal : T → List (Entry O R) → Type 0) (start : S → T) (history_of : S → List (Entry O R))
+      (keeps : S → List (Entry O R) → Type 0) (h : Held S O R T) → IsHeld legal start history_of keeps h → h.added ≡ true →
+      IsReady legal start history_of h.service h.seat.me.0
+  ready_now legal start history_of keeps h held added =
       let one = subst (λ b. HasAdded b h.seat.me.0.players h.seat.me.0.seen (history_of h.service)) added held.added in
       let count = ap added_count added in
       let room = held.room in
-      let there : IsReady legal history_of (h.seat.me.0, out_with h.service) = record {
+      record {
         ticket = held.holds.0;
-        service = h.service;
         entry = one.0;
         holds = held.holds.1;
-        out = refl;
+        start = held.start;
         longer = one.1;
-        lawful = λ o is_o. subst (λ q. legal q (history_of h.service))
-            (same_start h.seat.me.0.start (start h.service) o held.start is_o) held.lawful;
+        lawful = held.lawful;
         mine = one.2;
         room = omega arith;
-      } in
-      subst (λ k. IsReady legal history_of k) (sym is) there
+        short = held.short;
+        rest = held.rest;
+      }
 
-  pub published_now : (history_of : S → List (Entry O R)) (added : Bool) (v : View O R T) (x : S)
-      (m m' : Me (Option S) (View O R T)) → m ≡ (v, out_with x) → IsPublished history_of added m m' →
-      m' ≡ (left added v (history_of x), out_with x)
-  published_now history_of false v x m m' is did = did ∙ is
-  published_now history_of true v x m m' is did = did x (ap (λ (k : Me (Option S) (View O R T)). k.1) is)
-      ∙ ap (λ (k : Me (Option S) (View O R T)). (with_entry k.0 (history_of x), k.1)) is
+  -- and is in flight once it is announced
+  pub publishing_now : (legal : T → List (Entry O R) → Type 0) (start : S → T) (history_of : S → List (Entry O R)) (x : S)
+      (v : View O R T) → IsReady legal start history_of x v →
+      IsPublishing legal start history_of x (in_flight v (drop (length v.seen) (history_of x)))
+  publishing_now legal start history_of x v ready =
+      let one = ap (drop (length v.seen)) ready.longer ∙ drop-append_seam v.seen (ready.entry ∷ []) in
+      record {
+        ticket = ready.ticket;
+        entry = ready.entry;
+        holds = ready.holds;
+        start = ready.start;
+        pending = one;
+        longer = ready.longer ∙ ap (λ l. v.seen ++ l) (sym one);
+        lawful = ready.lawful;
+        mine = ready.mine;
+        room = ready.room;
+        short = ready.short;
+      }
+
+  -- whatever is ready for it
+  pub publishing_stamped : (legal : T → List (Entry O R) → Type 0) (start : S → T) (history_of : S → List (Entry O R)) (x : S)
+      (v : View O R T) (indices : List ℕ) → IsPublishing legal start history_of x v →
+      IsPublishing legal start history_of x (with_stamped v indices)
+  publishing_stamped legal start history_of x v indices p = record {
+    ticket = p.ticket;
+    entry = p.entry;
+    holds = p.holds;
+    start = p.start;
+    pending = p.pending;
+    longer = p.longer;
+    lawful = p.lawful;
+    mine = p.mine;
+    room = p.room;
+    short = p.short;
+  }
 
   -- the turn may be passed on
   pub may_pass_now : (legal : T → List (Entry O R) → Type 0) (start : S → T) (history_of : S →
-      List (Entry O R)) (h : Held S O R T) (m : Me (Option S) (View O R T)) →
-      IsHeld legal start history_of h → m ≡ (left h.added h.seat.me.0 (history_of h.service), out_with h.service) →
+      List (Entry O R)) (keeps : S → List (Entry O R) → Type 0) (h : Held S O R T) (m : Me (Option S) (View O R T)) →
+      IsHeld legal start history_of keeps h → m ≡ (left h.added h.seat.me.0 (history_of h.service), out_with h.service) →
       MayPass (Fits start history_of) m
-  may_pass_now legal start history_of h m held is =
+  may_pass_now legal start history_of keeps h m held is =
       let v = h.seat.me.0 in
       let past = history_of h.service in
       let there : MayPass (Fits start history_of) (left h.added v past, out_with h.service) = record {
@@ -178,6 +215,7 @@ module _ {S O R T : Type 0} where
           history = sym (left-seen h.added v past held.added);
           start = same_start v.start (start h.service) o held.start (sym (left-keeps (λ u. u.start) h.added v past refl) ∙ is_o);
         };
+        rest = left-rest h.added v past held.rest;
       } in
       subst (λ k. MayPass (Fits start history_of) k) (sym is) there
 
@@ -189,23 +227,22 @@ module _ {S O R T : Type 0} where
       m ≡ (left added v h, out_with x) → m' ≡ (staged m.0 Idle, rest m.1) → m' ≡ free added v h
   free-from added v h x m m' was is = is ∙ ap (λ (k : Me (Option S) (View O R T)). (staged k.0 Idle, rest k.1)) was
 
-  -- from the turn by the exchange, the publishing and the passing on
-  pub free-behind : (history_of : S → List (Entry O R)) (h : Held S O R T) (m1 m2 m3 : Me (Option S) (View O R T)) →
-      h.seat.me.1 ≡ (0, None) ∷ [] → m1 ≡ (h.seat.me.0, (0, Some h.service) ∷ rest h.seat.me.1) →
-      IsPublished history_of h.added m1 m2 → m3 ≡ (staged m2.0 Idle, rest m2.1) →
-      m3 ≡ free h.added h.seat.me.0 (history_of h.service)
-  free-behind history_of h m1 m2 m3 slots exchanged published passed =
-      let in_slot = back_in h.seat.me m1 h.service slots exchanged in
-      let now = published_now history_of h.added h.seat.me.0 h.service m1 m2 in_slot published in
-      free-from h.added h.seat.me.0 (history_of h.service) h.service m2 m3 now passed
+  -- what a seat knows that gives the service back
+  pub given_back : (added : Bool) (v : View O R T) (h : List (Entry O R)) (x : S) (m0 m1 m2 : Me (Option S) (View O R T)) →
+      m0.0 ≡ v → m0.1 ≡ (0, None) ∷ [] → m1 ≡ (left added m0.0 h, m0.1) → m2 ≡ (m1.0, (0, Some x) ∷ rest m1.1) →
+      m2 ≡ (left added v h, out_with x)
+  given_back added v h x m0 m1 m2 same slots published exchanged =
+      exchanged ∙ ap (λ (k : Me (Option S) (View O R T)). (k.0, (0, Some x) ∷ rest k.1)) published
+      ∙ ap (λ (l : List (ℕ × Option S)). (left added m0.0 h, (0, Some x) ∷ rest l)) slots
+      ∙ ap (λ (u : View O R T). (left added u h, out_with x)) same
 
   -- the pass that comes of it
   pub pass_now : (legal : T → List (Entry O R) → Type 0) (start : S → T) (history_of : S →
-      List (Entry O R)) (c : Cell S O R T) (h : Held S O R T) (seat : Seat (Option S) (View O R T)) (front : ℕ) →
-      IsHeldOf legal start history_of c h → seat.table_id ≡ h.seat.table_id →
+      List (Entry O R)) (keeps : S → List (Entry O R) → Type 0) (c : Cell S O R T) (h : Held S O R T)
+      (seat : Seat (Option S) (View O R T)) (front : ℕ) → IsHeldOf legal start history_of keeps c h → seat.table_id ≡ h.seat.table_id →
       seat.me ≡ free h.added h.seat.me.0 (history_of h.service) → front ≡ length (history_of h.service) →
       IsPassOf legal start c record { seat = seat; who = h.who; room = h.room; front = front }
-  pass_now legal start history_of c h seat front of_cell table knows long =
+  pass_now legal start history_of keeps c h seat front of_cell table knows long =
       let held = of_cell.held in
       let v = h.seat.me.0 in
       let past = history_of h.service in
@@ -226,6 +263,7 @@ module _ {S O R T : Type 0} where
         start = left-keeps (λ u. u.start) h.added v past refl ∙ held.start ∙ ap Some of_cell.same_start;
         front = long ∙ ap (λ (l : List (Entry O R)). length l) (sym seen);
         lawful = subst (λ l. legal (start (given_to c)) l) (sym seen) (subst (λ s. legal s past) of_cell.same_start held.lawful);
+        words = of_cell.words ∙ ap (λ (n : ℕ). 3 + n) (sym (left-keeps (λ u. u.words) h.added v past refl));
       } in
       subst (λ (k : Me (Option S) (View O R T)). IsPassOf legal start c record {
         seat = knowing seat k;
@@ -271,6 +309,7 @@ module _ {S O R T : Type 0} where
         front = long ∙ ap (λ (n : ℕ). max n q.front) mine.front ∙ ap (λ (n : ℕ). max (length v.seen) n) theirs.front
             ∙ length-longer v.seen w.seen;
         lawful = longer-either (legal (start (given_to c))) v.seen w.seen mine.lawful theirs.lawful;
+        words = mine.words;
       } in
       subst (λ (k : Me (Option S) (View O R T)). IsPassOf legal start c record {
         seat = knowing seat k;
@@ -281,22 +320,25 @@ module _ {S O R T : Type 0} where
 
   -- a turn in which no entry was added has room in the history
   pub short_now : (legal : T → List (Entry O R) → Type 0) (start : S → T) (history_of : S →
-      List (Entry O R)) (h : Held S O R T) → IsHeld legal start history_of h → h.added ≡ false →
+      List (Entry O R)) (keeps : S → List (Entry O R) → Type 0) (h : Held S O R T) → IsHeld legal start history_of keeps h → h.added ≡ false →
       length (history_of h.service) < most_entries
-  short_now legal start history_of h held fresh =
+  short_now legal start history_of keeps h held fresh =
       let same = subst (λ b. HasAdded b h.seat.me.0.players h.seat.me.0.seen (history_of h.service)) fresh held.added in
       let long = ap (λ (l : List (Entry O R)). length l) same in
       let short = held.short in omega arith
 
   -- the turn with its entry
-  pub acted_now : (m : Machine T O R) (start : S → T) (history_of : S → List (Entry O R)) (h : Held S O R T) (x : S)
+  pub acted_now : (m : Machine T O R) (start : S → T) (history_of : S → List (Entry O R)) (value : T → ℕ → ℕ)
+      (words : ℕ) (touched : S → List ℕ) (h : Held S O R T) (x : S)
       (step : ℕ) (op : O) (reply : R) →
-      IsHeld (IsLegal m) start history_of h → h.added ≡ false → h.seat.me.0.players ≡ h.who ∷ [] →
+      IsHeld (IsLegal m) start history_of (KeepsOthers m start history_of value words touched) h → h.added ≡ false → h.seat.me.0.players ≡ h.who ∷ [] →
       IsAbove (history_of h.service) h.who.number step → m.in_range (start h.service) op ≡ true →
       m.reply_of (state_after m (start h.service) (history_of h.service)) h.who op ≡ Some reply →
       history_of x ≡ history_of h.service ++ entry h.who step op reply ∷ [] → start x ≡ start h.service →
-      IsHeld (IsLegal m) start history_of record { seat = h.seat; service = x; who = h.who; room = h.room - 1; added = true; looked = h.looked }
-  acted_now m start history_of h x step op reply held fresh alone later range gives grew same =
+      LeavesOthers words (touched x) (value (state_after m (start h.service) (history_of h.service)))
+      (value (state_after m (start x) (history_of x))) →
+      IsHeld (IsLegal m) start history_of (KeepsOthers m start history_of value words touched) record { seat = h.seat; service = x; who = h.who; room = h.room - 1; added = true; looked = h.looked }
+  acted_now m start history_of value words touched h x step op reply held fresh alone later range gives grew same leaves =
       let e = entry h.who step op reply in
       let was = subst (λ b. HasAdded b h.seat.me.0.players h.seat.me.0.seen (history_of h.service)) fresh held.added in
       let some = held.some_room fresh in
@@ -316,4 +358,9 @@ module _ {S O R T : Type 0} where
         );
         lawful = subst (λ s. IsLegal m s (history_of x)) (sym same) (subst (λ l. IsLegal m (start h.service) l) (sym grew) legal);
         short = held.short;
+        rest = held.rest;
+        kept = λ now. subst (λ (l : List (Entry O R)). LeavesOthers words (touched x) (value (state_after m (start x) l))
+            (value (state_after m (start x) (history_of x)))) was
+            (subst (λ (s : T). LeavesOthers words (touched x) (value (state_after m s (history_of h.service)))
+            (value (state_after m (start x) (history_of x)))) (sym same) leaves);
       }

@@ -26,6 +26,11 @@ pub has-one : (w : Who) (number : ℕ) → has (w ∷ []) number ≡ true → w.
 has-one w number is = ⊎_elim (λ same. eqb-true w.number number same) (λ none. absurd (cc))
     (or_cases (eqb w.number number) false is)
 
+-- who has a number in it isn't empty
+pub has-some : (ws : List Who) (number : ℕ) → has ws number ≡ true → 0 < length ws
+has-some [] number is = absurd (cc)
+has-some (w ∷ ws) number is = omega arith
+
 -- the first of a list is in it
 pub has-first : (w : Who) (ws : List Who) (number : ℕ) → has (w ∷ []) number ≡ true → has (w ∷ ws) number ≡ true
 has-first w ws number is = ⊎_elim (λ same. or_left (eqb w.number number) (has ws number) same) (λ none. absurd (cc))

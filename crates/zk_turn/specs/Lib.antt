@@ -4,3 +4,4 @@ pub mod Players
 pub mod Steps
 pub mod Turn
 pub mod Views
+pub mod Words

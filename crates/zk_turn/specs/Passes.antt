@@ -9,14 +9,31 @@ use Rattle.zk_turn.specs.declared.pass.Pass.{Pass}
 use Rattle.zk_turn.specs.declared.held.Held.{Held}
 use Rattle.zk_turn.specs.declared.cell.Cell.{Cell}
 use Rattle.zk_turn.specs.Players.{is_by, own, room_of_a_pass}
-use Rattle.zk_turn.specs.Views.{with_entry}
+use Rattle.zk_turn.specs.Words.{at_rest}
+use Rattle.zk_turn.specs.Views.{with_stamped}
 use Rattle.zk_turn.specs.Steps.{out_with}
+use Rattle.zk_base.specs.Touched.{is_touched}
 
 module _ {O R : Type 0} where
   -- the history that a turn leaves: as it was found, or with one entry of the pass's players more
   abbrev pub HasAdded : Bool → List Who → List (Entry O R) → List (Entry O R) → Type 0
   HasAdded false players found history = history ≡ found
   HasAdded true players found history = (e : Entry O R) × (history ≡ found ++ e ∷ []) × (is_by players e ≡ true)
+
+module _ {O R T : Type 0} where
+  -- the word of an index has this value after the entry in flight, which comes at this position
+  pub record IsChange (word : T → List (Entry O R) → ℕ → ℕ) (index after position : ℕ) (v : View O R T) : Type 0 where
+    pub ticket : ℕ
+    pub entry : Entry O R
+    pub start : T
+    pub holds : v.stage ≡ Holding ticket
+    pub begins : v.start ≡ Some start
+    pub pending : v.flight.pending ≡ entry ∷ []
+    pub mine : is_by v.players entry ≡ true
+    pub value : after ≡ word start (v.seen ++ v.flight.pending) index
+    pub small : after < 65536
+    pub place : position ≡ length v.seen + 1
+    pub short : length v.seen ≤ room_of_a_pass * 256
 
 -- one where an entry was added
 abbrev pub added_count : Bool → ℕ
@@ -88,10 +105,12 @@ module _ {S O R T : Type 0} where
     pub start : p.seat.me.0.start ≡ Some (start_of (given_to c))
     pub front : p.front ≡ length p.seat.me.0.seen
     pub lawful : legal (start_of (given_to c)) p.seat.me.0.seen
+    pub words : c.table.shared.table_id.words ≡ 3 + p.seat.me.0.words
 
-  -- the turn is held: the service goes on from the history that was found, with one entry at most
-  pub record IsHeld (legal : T → List (Entry O R) → Type 0) (start_of : S → T)
-      (history_of : S → List (Entry O R)) (h : Held S O R T) : Type 0 where
+  -- the turn is held: the service goes on from the history that was found, with one entry at most, which leaves the words
+  -- as `keeps` says
+  pub record IsHeld (legal : T → List (Entry O R) → Type 0) (start_of : S → T) (history_of : S → List (Entry O R))
+      (keeps : S → List (Entry O R) → Type 0) (h : Held S O R T) : Type 0 where
     pub holds : (ticket : ℕ) × (h.seat.me.0.stage ≡ Holding ticket)
     pub slots : h.seat.me.1 ≡ (0, None) ∷ []
     pub first : (others : List Who) × (h.seat.me.0.players ≡ h.who ∷ others)
@@ -101,12 +120,15 @@ module _ {S O R T : Type 0} where
     pub added : HasAdded h.added h.seat.me.0.players h.seat.me.0.seen (history_of h.service)
     pub lawful : legal (start_of h.service) (history_of h.service)
     pub short : length h.seat.me.0.seen ≤ room_of_a_pass * 256
+    pub rest : h.seat.me.0.flight ≡ at_rest
+    pub kept : h.added ≡ true → keeps h.service h.seat.me.0.seen
 
   -- it is a turn of this cell
-  pub record IsHeldOf (legal : T → List (Entry O R) → Type 0) (start_of : S → T)
-      (history_of : S → List (Entry O R)) (c : Cell S O R T) (h : Held S O R T) : Type 0 where
+  pub record IsHeldOf (legal : T → List (Entry O R) → Type 0) (start_of : S → T) (history_of : S → List (Entry O R))
+      (keeps : S → List (Entry O R) → Type 0) (c : Cell S O R T) (h : Held S O R T) : Type 0 where
     pub table : h.seat.table_id ≡ c.table.shared.table_id
-    pub held : IsHeld legal start_of history_of h
+    pub words : c.table.shared.table_id.words ≡ 3 + h.seat.me.0.words
+    pub held : IsHeld legal start_of history_of keeps h
     pub same_start : start_of h.service ≡ start_of (given_to c)
 
   -- the same turn of the same player
@@ -132,18 +154,39 @@ module _ {S O R T : Type 0} where
   Spends g h (Ok None) = IsUnspent g h
   Spends g h (Err e) = IsUnspent g h
 
-  -- the seat has the service out that has the entry to be published, and may publish it
-  pub record IsReady (legal : T → List (Entry O R) → Type 0)
-      (history_of : S → List (Entry O R)) (m : Me (Option S) (View O R T)) : Type 0 where
+  -- the service has an entry more than the seat with its turn has seen, and it may be published
+  pub record IsReady (legal : T → List (Entry O R) → Type 0) (start_of : S → T) (history_of : S → List (Entry O R))
+      (service : S) (v : View O R T) : Type 0 where
     pub ticket : ℕ
-    pub service : S
     pub entry : Entry O R
-    pub holds : m.0.stage ≡ Holding ticket
-    pub out : m.1 ≡ out_with service
-    pub longer : history_of service ≡ m.0.seen ++ entry ∷ []
-    pub lawful : (start : T) → m.0.start ≡ Some start → legal start (history_of service)
-    pub mine : is_by m.0.players entry ≡ true
-    pub room : m.0.made + 1 ≤ room_of_a_pass * length m.0.players
+    pub holds : v.stage ≡ Holding ticket
+    pub start : v.start ≡ Some (start_of service)
+    pub longer : history_of service ≡ v.seen ++ entry ∷ []
+    pub lawful : legal (start_of service) (history_of service)
+    pub mine : is_by v.players entry ≡ true
+    pub room : v.made + 1 ≤ room_of_a_pass * length v.players
+    pub short : length v.seen ≤ room_of_a_pass * 256
+    pub rest : v.flight ≡ at_rest
+
+  -- that entry is in flight
+  pub record IsPublishing (legal : T → List (Entry O R) → Type 0) (start_of : S → T) (history_of : S → List (Entry O R))
+      (service : S) (v : View O R T) : Type 0 where
+    pub ticket : ℕ
+    pub entry : Entry O R
+    pub holds : v.stage ≡ Holding ticket
+    pub start : v.start ≡ Some (start_of service)
+    pub pending : v.flight.pending ≡ entry ∷ []
+    pub longer : history_of service ≡ v.seen ++ v.flight.pending
+    pub lawful : legal (start_of service) (history_of service)
+    pub mine : is_by v.players entry ≡ true
+    pub room : v.made + 1 ≤ room_of_a_pass * length v.players
+    pub short : length v.seen ≤ room_of_a_pass * 256
+
+  -- of the indices below a number those that are touched are ready
+  pub record IsStamped (words : ℕ) (touched : List ℕ) (old new : Me (Option S) (View O R T)) : Type 0 where
+    pub stamped : List ℕ
+    pub now : new ≡ (with_stamped old.0 stamped, old.1)
+    pub each : (index : ℕ) → index < words → is_touched touched index ≡ true → is_touched stamped index ≡ true
 
   -- the seat has the service out whose history it has seen, and may give it back
   pub record MayPass (fits : S → T → List (Entry O R) → Type 0) (m : Me (Option S) (View O R T)) : Type 0 where
@@ -152,11 +195,7 @@ module _ {S O R T : Type 0} where
     pub holds : m.0.stage ≡ Holding ticket
     pub out : m.1 ≡ out_with service
     pub fit : (start : T) → m.0.start ≡ Some start → fits service start m.0.seen
-
-  -- what the seat has seen once an entry, if one was added, is published
-  abbrev pub IsPublished : (S → List (Entry O R)) → Bool → Me (Option S) (View O R T) → Me (Option S) (View O R T) → Type 0
-  IsPublished history false old new = new ≡ old
-  IsPublished history true old new = (service : S) → old.1 ≡ out_with service → new ≡ (with_entry old.0 (history service), old.1)
+    pub rest : m.0.flight ≡ at_rest
 
   -- a new pass of this player
   pub record IsNewPass (legal : T → List (Entry O R) → Type 0)

@@ -8,8 +8,10 @@ use Rattle.zk_base.specs.declared.ids.Entry.{Entry}
 use Rattle.zk_turn.specs.declared.views.Stage.{Stage}
 use Rattle.zk_turn.specs.declared.views.Stage.TheVariants.{Idle, Waiting, Holding}
 use Rattle.zk_turn.specs.declared.views.Part.{Part}
+use Rattle.zk_turn.specs.declared.views.Flight.{Flight}
 use Rattle.zk_turn.specs.declared.views.View.{View}
 use Rattle.zk_turn.specs.Players.{has, is_by, GoesOn, room_of_a_pass}
+use Rattle.zk_turn.specs.Words.{at_rest, WordStands, NoteStands}
 
 -- how many tickets a seat at this stage has
 abbrev pub ticket_count : Stage → ℕ
@@ -54,6 +56,13 @@ module _ {O R T : Type 0} where
     pub parts : Continues v.parts v.seen
     pub start : 0 < length v.players → v.start ≡ Some origin
 
+  -- what holds of one seat as for the published words: who holds the turn knows the entry in flight
+  pub record LookStands (word : List (Entry O R) → ℕ → ℕ) (width : ℕ) (history : List (Entry O R)) (flight : Flight O R)
+      (v : View O R T) : Type 0 where
+    pub words : 0 < length v.players → v.words ≡ width
+    pub note : NoteStands word history flight.pending (length v.seen) v.note
+    pub holder : HoldsTurn v.stage → v.flight ≡ flight
+
   -- two seats stand for different players and have different tickets
   pub record AreApart (v w : View O R T) : Type 0 where
     pub players : (number : ℕ) → has v.players number ≡ true → has w.players number ≡ true → ⊥
@@ -88,20 +97,25 @@ module _ {O R T : Type 0} where
   made_of v = v.made
 
 module _ {S O R T : Type 0} (legal : T → List (Entry O R) → Type 0) (fits : S → T → List (Entry O R) → Type 0) where
-  -- the service lies in the slot with the whole history, and no seat holds the turn
-  pub record IsHome (origin : T) (history : List (Entry O R)) (s : State (Option S) (View O R T)) : Type 0 where
+  -- the service lies in the slot with the whole history, no entry is in flight, and no seat holds the turn
+  pub record IsHome (origin : T) (history : List (Entry O R)) (flight : Flight O R)
+      (s : State (Option S) (View O R T)) : Type 0 where
     pub service : S
     pub there : get_elem? s.homes 0 ≡ some (some (Some service))
     pub fit : fits service origin history
+    pub rest : flight ≡ at_rest
     pub free : NoneHolds s.views
 
-  -- the rule, for a cell of so many players whose service starts in this state
+module _ {S O R T : Type 0} (legal : T → List (Entry O R) → Type 0) (fits : S → T → List (Entry O R) → Type 0)
+    (word : T → List (Entry O R) → ℕ → ℕ) (width : ℕ) where
+  -- the rule, for a cell of so many players whose service starts in this state and publishes words of this width
   pub record Turn (origin : T) (count : ℕ) (s : State (Option S) (View O R T)) : Type 0 where
     pub history : List (Entry O R)
     pub served : ℕ
     pub drawn : ℕ
-    -- the words are the tickets drawn, the ticket served, and the length of the history
-    pub words : 3 ≤ length s.words
+    pub flight : Flight O R
+    -- the words are the tickets drawn, the ticket served, the length of the history, and those that are published
+    pub words : 3 + width ≤ length s.words
     pub slot : 0 < length s.homes
     pub ticket_word : slice_index s.words 0 ≡ drawn % 2 ^ 64
     pub serving_word : slice_index s.words 1 ≡ served % 2 ^ 64
@@ -116,5 +130,9 @@ module _ {S O R T : Type 0} (legal : T → List (Entry O R) → Type 0) (fits : 
     pub apart : (i j : ℕ) (v w : View O R T) → ¬ (i ≡ j) → get_elem? s.views i ≡ some v →
         get_elem? s.views j ≡ some w → AreApart v w
     pub covered : All (IsCovered s.views) history
+    pub published : (index : ℕ) → index < width →
+        WordStands (λ h. word origin h index) history flight index (slice_index s.words (3 + index))
+    pub looks : (place : ℕ) (v : View O R T) → get_elem? s.views place ≡ some v →
+        LookStands (word origin) width history flight v
     -- the service is at home, or out with whoever holds the turn
-    pub place : IsHome origin history s ⊎ SomeHolds s.views
+    pub place : IsHome legal fits origin history flight s ⊎ SomeHolds s.views

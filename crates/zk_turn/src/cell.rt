@@ -1,4 +1,4 @@
-ghost use Rattle.std.specs.Prelude.{◌≡◌};
+ghost use Rattle.std.specs.Prelude.{◌≡◌, ◌≤◌};
 
 use crate::rule::{Beginning, TurnRule};
 use crate::views::View;
@@ -12,7 +12,8 @@ use zk_base::Service;
 /// Every call of a cell takes passes and turns of that cell alone. A cell is shared by reference; `close` takes it apart.
 #[derive(Drop)]
 pub struct Cell<S: Service> {
-    // The words are the tickets drawn, the ticket served, and the length of the history; the slot holds the service.
+    // The words are the tickets drawn, the ticket served, the length of the history, and those that the service publishes;
+    // the slot holds the service.
     pub(crate) table: Table<
         Option<S>,
         View<S::Op, S::Reply, S::State>,
@@ -22,5 +23,5 @@ pub struct Cell<S: Service> {
     >,
     // How many callers sleep, or are about to.
     pub(crate) sleepers: AtomicU64,
-    ghost shape: { (table.shared.table_id.words ≡ 3) × (table.shared.table_id.slots ≡ 1) },
+    ghost shape: { (3 ≤ table.shared.table_id.words) × (table.shared.table_id.slots ≡ 1) },
 }

@@ -2,6 +2,7 @@ ghost use Rattle.std.specs.Prelude.{◌≡◌, ◌+◌, ◌≤◌, ◌<◌, true
 ghost use Rattle.zk_base.specs.History.{IsAbove, AddsNone, extended};
 ghost use Rattle.zk_base.specs.Legal.{IsLegal, state_after};
 ghost use Rattle.zk_base.specs.Touched.{LeavesOthers};
+ghost use Rattle.zk_turn.specs.Words.{KeepsOthers};
 ghost use Rattle.zk_turn.specs.Passes.{IsHeld, IsSameTurn, Spends, service_of, held_players, held_who, held_room, has_added, has_looked};
 
 use crate::views::View;
@@ -24,7 +25,8 @@ impl<S: Service> Held<S> {
     /// A turn adds one entry at most, and none once its look is made. After `None` or want of memory another operation
     /// may be tried in the same turn.
     pub fn act(&mut self, step: u32, op: S::Op) -> Result<Option<S::Reply>, NoMemory>
-        requires held { IsHeld (IsLegal S.machine) S.start S.history self.old }
+        requires held { IsHeld (IsLegal S.machine) S.start S.history
+            (KeepsOthers S.machine S.start S.history S.word S.WORDS S.touched) self.old }
         requires fresh { has_added self.old ≡ false }
         requires unlooked { has_looked self.old ≡ false }
         requires alone { held_players self.old ≡ held_who self.old ∷ [] }
@@ -32,7 +34,8 @@ impl<S: Service> Held<S> {
         requires range { S.machine.in_range (S.start (service_of self.old)) op ≡ true }
 
         // It is the same turn, with the entry or without.
-        ensures held { IsHeld (IsLegal S.machine) S.start S.history self.new }
+        ensures held { IsHeld (IsLegal S.machine) S.start S.history
+            (KeepsOthers S.machine S.start S.history S.word S.WORDS S.touched) self.new }
         ensures turn { IsSameTurn self.old self.new }
         ensures spends { Spends self.old self.new result }
 
@@ -69,12 +72,14 @@ impl<S: Service> Held<S> {
     /// A turn has one look or one entry, and a look takes no room of the pass. After an attempt that was refused, a
     /// look may be made in the same turn.
     pub fn word(&mut self, index: u32) -> u32
-        requires held { IsHeld (IsLegal S.machine) S.start S.history self.old }
+        requires held { IsHeld (IsLegal S.machine) S.start S.history
+            (KeepsOthers S.machine S.start S.history S.word S.WORDS S.touched) self.old }
         requires fresh { has_added self.old ≡ false }
         requires unlooked { has_looked self.old ≡ false }
 
         // It is the same turn, without an entry, and its look is made.
-        ensures held { IsHeld (IsLegal S.machine) S.start S.history self.new }
+        ensures held { IsHeld (IsLegal S.machine) S.start S.history
+            (KeepsOthers S.machine S.start S.history S.word S.WORDS S.touched) self.new }
         ensures turn { IsSameTurn self.old self.new }
         ensures service { service_of self.new ≡ service_of self.old }
         ensures room { held_room self.new ≡ held_room self.old }

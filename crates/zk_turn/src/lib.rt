@@ -5,14 +5,21 @@ mod call;
 mod cell;
 mod close;
 mod held;
+mod looks;
 mod opening;
 mod pass;
+mod publishing;
 mod rule;
 mod turns;
 mod views;
+mod word;
 
 pub use cell::Cell;
 pub use held::Held;
 pub use pass::Pass;
-pub use rule::{Await, Beginning, Deal, Draw, Merge, PassOn, Publish, Recall, TurnRule};
-pub use views::{Part, Stage, View};
+pub use rule::{
+    Announce, Await, Beginning, Deal, Draw, LoadCount, LoadWord, Measure, Merge, PassOn, Publish,
+    Recall, Stamp, TurnRule, Weigh,
+};
+pub use views::{Flight, Note, Part, Stage, View};
+pub use word::Look;

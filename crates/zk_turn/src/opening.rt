@@ -3,11 +3,13 @@ ghost use Rattle.zk_base.specs.declared.ids.Who.{Who};
 ghost use Rattle.zk_base.specs.Legal.{IsLegal};
 ghost use Rattle.zk_turn.specs.Players.{Differ};
 ghost use Rattle.zk_turn.specs.Views.{opened};
+ghost use Rattle.zk_turn.specs.Words.{AreFirstWords};
 ghost use Rattle.zk_turn.specs.Passes.{IsNewPass, AreNewPasses, given_to, players_in};
 
 use crate::cell::Cell;
 use crate::pass::Pass;
 use crate::rule::{Beginning, Deal};
+use crate::turns::FIRST_WORD;
 use crate::views::View;
 use atomic_table::{Seat, Table};
 use std::alloc::Global;
@@ -41,9 +43,10 @@ impl<S: Service> Cell<S> {
             service: Snapshot::of(&service),
             players: copies,
         };
+        let words = first_words(alloc, &service)?;
         let mut slots = Vec::with_capacity(alloc, 1)?;
         push_within(&mut slots, Some(service));
-        let Ok((table, mut seat)) = Table::new(alloc, &[0, 0, 0], slots, &beginning) else {
+        let Ok((table, mut seat)) = Table::new(alloc, &words, slots, &beginning) else {
             return Err(NoMemory);
         };
         let cell = Cell {
@@ -62,7 +65,8 @@ impl<S: Service> Cell<S> {
         passes: &mut Vec<Pass<S>>,
     )
         requires table { seat.old.table_id ≡ self.now.table.shared.table_id }
-        requires opened { seat.old.me ≡ (opened (S.start (given_to self.now)) players.now, []) }
+        requires words { self.now.table.shared.table_id.words ≡ 3 + S.WORDS }
+        requires opened { seat.old.me ≡ (opened (S.start (given_to self.now)) S.WORDS players.now, []) }
         requires differ { Differ players.now }
         requires none { passes.old.items ≡ [] }
         requires room { vec_len passes.old + length players.now ≤ vec_capacity passes.old }
@@ -77,11 +81,12 @@ impl<S: Service> Cell<S> {
     // The pass of the first player that has none yet.
     fn deal(&self, seat: &mut Seat<Option<S>, View<S::Op, S::Reply, S::State>>, who: Who) -> Pass<S>
         requires table { seat.old.table_id ≡ self.now.table.shared.table_id }
+        requires words { self.now.table.shared.table_id.words ≡ 3 + S.WORDS }
         requires first { (others : List Who)
-            × (seat.old.me ≡ (opened (S.start (given_to self.now)) (who ∷ others), [])) × Differ (who ∷ others) }
+            × (seat.old.me ≡ (opened (S.start (given_to self.now)) S.WORDS (who ∷ others), [])) × Differ (who ∷ others) }
         ensures table { seat.new.table_id ≡ seat.old.table_id }
-        ensures others { (others : List Who) → seat.old.me ≡ (opened (S.start (given_to self.now)) (who ∷ others), []) →
-            seat.new.me ≡ (opened (S.start (given_to self.now)) others, []) }
+        ensures others { (others : List Who) → seat.old.me ≡ (opened (S.start (given_to self.now)) S.WORDS (who ∷ others), []) →
+            seat.new.me ≡ (opened (S.start (given_to self.now)) S.WORDS others, []) }
         ensures pass { IsNewPass (IsLegal S.machine) S.start self.now who result }
     {
         let dealt = self.table.shared.split_seat::<Deal>(seat);
@@ -92,4 +97,18 @@ impl<S: Service> Cell<S> {
             front: 0,
         }
     }
+}
+
+// The words of a cell at first: no ticket is drawn, none is served but the first, there is no entry, and each published
+// word is that of the service as it was given.
+fn first_words<S: Service>(alloc: Global, service: &S) -> Result<Vec<u64>, NoMemory>
+    requires empty { S.history service.now ≡ [] }
+    ensures { IfOk result (λ words. AreFirstWords S.WORDS (S.word (S.start service.now)) words.items) }
+{
+    let mut words = Vec::with_capacity(alloc, FIRST_WORD + S::WORDS as usize)?;
+    words.extend_from_slice(&[0, 0, 0])?;
+    for index in 0..S::WORDS {
+        words.push(service.word(index) as u64 * 65_536)?;
+    }
+    Ok(words)
 }

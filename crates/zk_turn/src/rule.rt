@@ -24,11 +24,13 @@ impl<S: Service> TableRule<Option<S>, View<S::Op, S::Reply, S::State>, Beginning
     ghost use Rattle.zk_turn.specs.Steps.{Fits};
     ghost use Rattle.zk_turn.specs.Turn.{Turn};
     ghost use Rattle.zk_turn.specs.Views.{opened};
+    ghost use Rattle.zk_turn.specs.Words.{word_after};
 
     ghost holds = { λ beginning.
-        Turn (IsLegal S.machine) (Fits S.start S.history) (S.start beginning.service.value) (length beginning.players.items) };
+        Turn (IsLegal S.machine) (Fits S.start S.history) (word_after S.machine S.word) S.WORDS
+        (S.start beginning.service.value) (length beginning.players.items) };
 
-    ghost first = { λ beginning. opened (S.start beginning.service.value) beginning.players.items };
+    ghost first = { λ beginning. opened (S.start beginning.service.value) S.WORDS beginning.players.items };
 }
 
 /// A ticket is drawn.
@@ -54,6 +56,40 @@ impl<S: Service> Play<Option<S>, View<S::Op, S::Reply, S::State>> for Await<S> {
     ghost then = { Awaits (IsLegal S.machine) (Fits S.start S.history) };
 }
 
+/// An entry is announced: it is in flight from here until it is published.
+pub struct Announce<S> {
+    marker: PhantomData<S>,
+}
+
+impl<S: Service> Play<Option<S>, View<S::Op, S::Reply, S::State>> for Announce<S> {
+    ghost use Rattle.zk_turn.specs.Steps.{Announces};
+
+    ghost then = { Announces S.WORDS S.history };
+}
+
+/// A word that may change is weighed against the entry in flight.
+pub struct Weigh<S> {
+    marker: PhantomData<S>,
+}
+
+impl<S: Service> Play<Option<S>, View<S::Op, S::Reply, S::State>> for Weigh<S> {
+    ghost use Rattle.zk_turn.specs.Steps.{Weighs};
+    ghost use Rattle.zk_turn.specs.Words.{word_after};
+
+    ghost then = { Weighs (word_after S.machine S.word) };
+}
+
+/// A word is stored for the entry in flight.
+pub struct Stamp<S> {
+    marker: PhantomData<S>,
+}
+
+impl<S: Service> Play<Option<S>, View<S::Op, S::Reply, S::State>> for Stamp<S> {
+    ghost use Rattle.zk_turn.specs.Steps.{Stamps};
+
+    ghost then = { Stamps };
+}
+
 /// An entry is published.
 pub struct Publish<S> {
     marker: PhantomData<S>,
@@ -62,7 +98,7 @@ pub struct Publish<S> {
 impl<S: Service> Play<Option<S>, View<S::Op, S::Reply, S::State>> for Publish<S> {
     ghost use Rattle.zk_turn.specs.Steps.{Publishes};
 
-    ghost then = { Publishes S.history };
+    ghost then = { Publishes };
 }
 
 /// The turn is passed on.
@@ -85,6 +121,41 @@ impl<S: Service> Play<Option<S>, View<S::Op, S::Reply, S::State>> for Recall<S> 
     ghost use Rattle.zk_turn.specs.Steps.{Recalls};
 
     ghost then = { Recalls };
+}
+
+/// How many words are published.
+pub struct Measure<S> {
+    marker: PhantomData<S>,
+}
+
+impl<S: Service> Play<Option<S>, View<S::Op, S::Reply, S::State>> for Measure<S> {
+    ghost use Rattle.zk_turn.specs.Steps.{Measures};
+
+    ghost then = { Measures S.WORDS };
+}
+
+/// A look loads a word.
+pub struct LoadWord<S> {
+    marker: PhantomData<S>,
+}
+
+impl<S: Service> Play<Option<S>, View<S::Op, S::Reply, S::State>> for LoadWord<S> {
+    ghost use Rattle.zk_turn.specs.Steps.{LoadsWord};
+
+    ghost then = { LoadsWord };
+}
+
+/// A look loads the length of the history, and has seen what its word is of.
+pub struct LoadCount<S> {
+    marker: PhantomData<S>,
+}
+
+impl<S: Service> Play<Option<S>, View<S::Op, S::Reply, S::State>> for LoadCount<S> {
+    ghost use Rattle.zk_base.specs.Legal.{IsLegal};
+    ghost use Rattle.zk_turn.specs.Steps.{LoadsCount};
+    ghost use Rattle.zk_turn.specs.Words.{word_after};
+
+    ghost then = { LoadsCount (IsLegal S.machine) (word_after S.machine S.word) };
 }
 
 /// The first player gets a seat of its own.

@@ -1,16 +1,17 @@
-ghost use Rattle.std.specs.Prelude.{◌≡◌, ◌+◌, ◌<◌, ◌%◌, ◌^◌, true, false, ℕ, []};
+ghost use Rattle.std.specs.Prelude.{◌≡◌, ◌+◌, ◌<◌, ◌%◌, ◌^◌, false, ℕ, []};
 ghost use Rattle.atomic_table.specs.Table.{rest};
 ghost use Rattle.zk_base.specs.Legal.{IsLegal};
 ghost use Rattle.zk_turn.specs.declared.views.Stage.TheVariants.{Idle, Waiting};
 ghost use Rattle.zk_turn.specs.Players.{GoesOn, own};
 ghost use Rattle.zk_turn.specs.Views.{staged};
 ghost use Rattle.zk_turn.specs.Steps.{Took, Fits};
-ghost use Rattle.zk_turn.specs.Passes.{IsPassOf, IsHeldOf, IsReady, IsPublished, MayPass, pass_players, pass_who, pass_seen, pass_mine, pass_holds, pass_room, held_players, held_who, held_room, held_holds, has_added, has_looked, service_of};
+ghost use Rattle.zk_turn.specs.Words.{KeepsOthers};
+ghost use Rattle.zk_turn.specs.Passes.{IsPassOf, IsHeldOf, MayPass, pass_players, pass_who, pass_seen, pass_mine, pass_holds, pass_room, held_players, held_who, held_room, held_holds, has_added, has_looked, service_of};
 
 use crate::cell::Cell;
 use crate::held::Held;
 use crate::pass::Pass;
-use crate::rule::{Await, Draw, PassOn, Publish};
+use crate::rule::{Await, Draw, PassOn};
 use crate::views::View;
 use atomic_table::Seat;
 use std::sync::Wait;
@@ -18,12 +19,15 @@ use std::sync::atomic::Ordering::SeqCst;
 use std::{hint, thread};
 use zk_base::Service;
 
-// The words of a cell: the tickets drawn, the ticket served, and the length of the history, each modulo 2^64.
+// The words of a cell: the tickets drawn, the ticket served, and the length of the history, each modulo 2^64. Behind them
+// are those that are published, one for each index.
 pub(crate) const TICKET: usize = 0;
 
 const SERVING: usize = 1;
 
-const COUNT: usize = 2;
+pub(crate) const COUNT: usize = 2;
+
+pub(crate) const FIRST_WORD: usize = 3;
 
 // How often a caller looks whether its ticket is served before it sleeps: for longer than it takes to wake a thread,
 // since else all sleep once one does.
@@ -39,7 +43,8 @@ impl<S: Service> Cell<S> {
         requires room { 0 < pass_room pass }
 
         // It is a turn of this cell for the player of the pass, in which no entry was added yet and no look was made.
-        ensures own { IsHeldOf (IsLegal S.machine) S.start S.history self.now result }
+        ensures own { IsHeldOf (IsLegal S.machine) S.start S.history
+            (KeepsOthers S.machine S.start S.history S.word S.WORDS S.touched) self.now result }
         ensures players { held_players result ≡ pass_players pass }
         ensures who { held_who result ≡ pass_who pass }
         ensures room { held_room result ≡ pass_room pass }
@@ -114,7 +119,8 @@ impl<S: Service> Cell<S> {
     ///
     /// It takes no memory and waits for nobody.
     pub fn leave(&self, held: Held<S>) -> Pass<S>
-        requires own { IsHeldOf (IsLegal S.machine) S.start S.history self.now held }
+        requires own { IsHeldOf (IsLegal S.machine) S.start S.history
+            (KeepsOthers S.machine S.start S.history S.word S.WORDS S.touched) self.now held }
         ensures own { IsPassOf (IsLegal S.machine) S.start self.now result }
         ensures players { pass_players result ≡ held_players held }
         ensures who { pass_who result ≡ held_who held }
@@ -134,10 +140,10 @@ impl<S: Service> Cell<S> {
             looked: _,
         } = held;
         let front = service.history().len() as u64;
+        let service = self.publish(&mut seat, service, added);
         let None = self.table.shared.exchange(&mut seat, 0, Some(service)) else {
             unreachable!()
         };
-        self.publish(&mut seat, added);
         self.pass_on(&mut seat);
         Pass {
             seat,
@@ -152,18 +158,6 @@ impl<S: Service> Cell<S> {
     /// It is a hint: more may have come by the time that it answers, and the turn of a new entry may not be over yet.
     pub fn has_grown(&self, pass: &Pass<S>) -> bool {
         self.table.shared.peek(COUNT) != pass.front
-    }
-
-    // Counts the entry, where one was added.
-    fn publish(&self, seat: &mut Seat<Option<S>, View<S::Op, S::Reply, S::State>>, added: bool)
-        requires table { seat.old.table_id ≡ self.now.table.shared.table_id }
-        requires ready { added ≡ true → IsReady (IsLegal S.machine) S.history seat.old.me }
-        ensures table { seat.new.table_id ≡ seat.old.table_id }
-        ensures done { IsPublished S.history added seat.old.me seat.new.me }
-    {
-        if added {
-            self.table.shared.fetch_add::<Publish<S>>(seat, COUNT, 1);
-        }
     }
 
     // Serves the next ticket, and wakes all who sleep, if somebody does.

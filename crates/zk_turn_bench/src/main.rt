@@ -1,14 +1,15 @@
-//! Times of turns at a work service that threads share, beside a lock round the same service. With no word it does nothing.
+//! Times of turns and looks at a service that threads share, beside a lock round the same service. With no word it does nothing.
 #![tactic(auto)]
 
 ghost use Rattle.std.specs.Prelude.{◌≡◌, ◌≤◌, true, Some, length, IfOk};
 ghost use Rattle.zk_base.specs.History.{IsAbove};
 ghost use Rattle.zk_base.specs.Legal.{IsLegal};
-ghost use Rattle.zk_model_work.specs.declared.ops.WorkOp.TheVariants.{Submit};
+ghost use Rattle.zk_model_work.specs.declared.ops.WorkOp.TheVariants.{Submit, Cancel};
 ghost use Rattle.zk_model_work.specs.Machine.{work_machine};
 ghost use Rattle.zk_work.specs.Seen.{work_start, work_history};
 ghost use Rattle.zk_turn.specs.Players.{Differ};
-ghost use Rattle.zk_turn.specs.Passes.{AreNewPasses, given_to};
+ghost use Rattle.zk_turn.specs.Passes.{AreNewPasses, IsNewPass, IsPassOf, given_to, pass_room};
+ghost use Rattle.zk_uses.specs.Callers.{AreNew};
 
 use std::alloc::Global;
 use std::sync::{Mutex, Wait};
@@ -16,10 +17,12 @@ use std::thread::{self, Threads};
 use std::time::{Clock, Instant};
 use std::{env, io};
 use zk_base::{NoMemory, Service, Who};
+use zk_model_wait::ClockOp;
 use zk_model_work::WorkOp;
 use zk_turn::{Cell, Pass};
 use zk_uses::{
-    call_often, four_callers, last_caller, submitted_by_four, submitted_by_two, two_callers,
+    Caller, call_in_turn, call_often, four_callers, last_caller, submitted_by_four,
+    submitted_by_two, two_callers,
 };
 use zk_work::Work;
 
@@ -80,7 +83,8 @@ fn shared(alloc: Global, players: &[Who]) -> Result<(Cell<Work>, Vec<Pass<Work>>
     requires few { length players.now ≤ 256 }
     requires differ { Differ players.now }
     ensures passes { IfOk result (λ made. AreNewPasses (IsLegal work_machine) work_start made.0 players.now made.1.items) }
-    ensures range { IfOk result (λ made. work_machine.in_range (work_start (given_to made.0)) (Submit 0 (Some 0)) ≡ true) }
+    ensures submit { IfOk result (λ made. work_machine.in_range (work_start (given_to made.0)) (Submit 0 (Some 0)) ≡ true) }
+    ensures cancel { IfOk result (λ made. work_machine.in_range (work_start (given_to made.0)) (Cancel 0) ≡ true) }
 {
     Cell::new(alloc, Work::new(alloc, 1, &[9], &[true])?, players)
 }
@@ -88,10 +92,13 @@ fn shared(alloc: Global, players: &[Who]) -> Result<(Cell<Work>, Vec<Pass<Work>>
 /// Prints how long each of so many calls took.
 fn print<R: Clock + Print>(rt: &R, what: &str, start: Instant, calls: u32) -> io::Result<()> {
     let nanos = start.elapsed(rt)?.as_nanos();
-    println!(rt;
-        "{what:<32} {:>6} ns a call",
-        nanos / u128::from(calls.max(1))
-    )
+    print_nanos(rt, what, nanos, calls)
+}
+
+/// The same of so many nanoseconds in all.
+fn print_nanos<R: Print>(rt: &R, what: &str, nanos: u128, calls: u32) -> io::Result<()> {
+    let tenths = nanos.saturating_mul(10) / u128::from(calls.max(1));
+    println!(rt; "{what:<40} {:>6}.{} ns a call", tenths / 10, tenths % 10)
 }
 
 fn turns_of_one<R: Threads + Wait + Sync + Clock + Print + AllocGlobal>(rt: &R) -> io::Result<()> {
@@ -102,6 +109,144 @@ fn turns_of_one<R: Threads + Wait + Sync + Clock + Print + AllocGlobal>(rt: &R) 
     let start = Instant::now(rt)?;
     let _pass = call_often(rt, &cell, first, WorkOp::Submit(0, Some(0)), TIMES);
     print(rt, "turns, one thread", start, TIMES)
+}
+
+/// Submissions and cancels in turn, each of which changes the published word.
+fn changes_of_one<R: Wait + Clock + Print + AllocGlobal>(rt: &R) -> io::Result<()> {
+    let Ok((cell, mut passes)) = shared(rt.alloc(), &[FIRST]) else {
+        return println!(rt; "out of memory");
+    };
+    let first = last_caller(&cell, FIRST, &mut passes);
+    let ops = (WorkOp::Submit(0, Some(0)), WorkOp::Cancel(0));
+    let start = Instant::now(rt)?;
+    let _pass = call_in_turn(rt, &cell, first, ops, TIMES);
+    print(rt, "turns that change a word, one thread", start, TIMES)
+}
+
+/// Turns at a clock, which publishes no words.
+fn ticks_of_one<R: Wait + Clock + Print + AllocGlobal>(rt: &R) -> io::Result<()> {
+    let clock = zk_time::Clock::new(rt.alloc());
+    let Ok((cell, mut passes)) = Cell::new(rt.alloc(), clock, &[FIRST]) else {
+        return println!(rt; "out of memory");
+    };
+    let first = last_caller(&cell, FIRST, &mut passes);
+    let start = Instant::now(rt)?;
+    let _pass = call_often(rt, &cell, first, ClockOp::Announce(1), TIMES);
+    print(rt, "turns without words, one thread", start, TIMES)
+}
+
+/// Three loads of the length of the history, so many times: how often it was another one than the pass has seen.
+fn load_three(cell: &Cell<Work>, pass: &Pass<Work>, times: u32) -> u64 {
+    let mut sum = 0u64;
+    for _ in 0..times {
+        for _ in 0..3 {
+            if cell.has_grown(pass) {
+                sum = sum.wrapping_add(1);
+            }
+        }
+    }
+    sum
+}
+
+/// Looks at the item so many times: what they have found, added up.
+fn look_on(cell: &Cell<Work>, mut pass: Pass<Work>, times: u32) -> u64
+    requires own { IsPassOf (IsLegal work_machine) work_start cell.now pass }
+    requires room { times ≤ pass_room pass }
+{
+    let mut sum = 0u64;
+    for _round in 0..times {
+        let look = cell.look(&mut pass, 0);
+        sum = sum.wrapping_add(look.at).wrapping_add(u64::from(look.word));
+    }
+    sum
+}
+
+/// Uses a sum, which isn't as large.
+fn used<R: Print>(rt: &R, sum: u64) -> io::Result<()> {
+    if sum == u64::MAX {
+        return println!(rt; "{sum}");
+    }
+    Ok(())
+}
+
+fn looks_of_one<R: Clock + Print + AllocGlobal>(rt: &R) -> io::Result<()> {
+    let Ok((cell, mut passes)) = shared(rt.alloc(), &[FIRST]) else {
+        return println!(rt; "out of memory");
+    };
+    let first = last_caller(&cell, FIRST, &mut passes);
+    let start = Instant::now(rt)?;
+    let sum = load_three(&cell, &first.pass, TIMES);
+    print(rt, "three loads, one thread", start, TIMES)?;
+    used(rt, sum)?;
+    let start = Instant::now(rt)?;
+    let sum = look_on(&cell, first.pass, TIMES);
+    print(rt, "looks, one thread", start, TIMES)?;
+    used(rt, sum)
+}
+
+/// How many nanoseconds the looks of a pass take, which begin once the cell has an entry.
+fn timed_looks<R: Wait + Clock>(rt: &R, cell: &Cell<Work>, caller: Caller<Work>) -> Option<u128>
+    requires { IsNewPass (IsLegal work_machine) work_start cell.now caller.who caller.pass }
+{
+    for _ in rt.forever() {
+        if cell.has_grown(&caller.pass) {
+            break;
+        }
+    }
+    let Ok(start) = Instant::now(rt) else {
+        return None;
+    };
+    let sum = look_on(cell, caller.pass, TIMES);
+    match start.elapsed(rt) {
+        Ok(time) if sum != u64::MAX => Some(time.as_nanos()),
+        _ => None,
+    }
+}
+
+/// One thread looks while another changes the item without pause: the nanoseconds of the looks.
+fn looked_meanwhile<R: Threads + Wait + Sync + Clock>(
+    rt: &R,
+    cell: &Cell<Work>,
+    first: Caller<Work>,
+    second: Caller<Work>,
+) -> Option<u128>
+    requires new { AreNew (IsLegal work_machine) work_start cell.now first second }
+    requires submit { work_machine.in_range (work_start (given_to cell.now)) (Submit 0 (Some 0)) ≡ true }
+    requires cancel { work_machine.in_range (work_start (given_to cell.now)) (Cancel 0) ≡ true }
+{
+    let (nanos, _pass) = thread::join(
+        rt,
+        move ||
+            requires { IsNewPass (IsLegal work_machine) work_start cell.now first.who first.pass }
+        { timed_looks(rt, cell, first) },
+        move ||
+            requires new { IsNewPass (IsLegal work_machine) work_start cell.now second.who second.pass }
+            requires submit { work_machine.in_range (work_start (given_to cell.now)) (Submit 0 (Some 0)) ≡ true }
+            requires cancel { work_machine.in_range (work_start (given_to cell.now)) (Cancel 0) ≡ true }
+        {
+            call_in_turn(
+                rt,
+                cell,
+                second,
+                (WorkOp::Submit(0, Some(0)), WorkOp::Cancel(0)),
+                TIMES,
+            )
+        },
+    );
+    nanos
+}
+
+fn looks_beside_turns<R: Threads + Wait + Sync + Clock + Print + AllocGlobal>(
+    rt: &R,
+) -> io::Result<()> {
+    let Ok((cell, passes)) = shared(rt.alloc(), &[FIRST, SECOND]) else {
+        return println!(rt; "out of memory");
+    };
+    let (first, second) = two_callers(&cell, FIRST, SECOND, passes);
+    match looked_meanwhile(rt, &cell, first, second) {
+        Some(nanos) => print_nanos(rt, "looks beside turns of another thread", nanos, TIMES),
+        None => println!(rt; "no clock"),
+    }
 }
 
 fn turns_of_two<R: Threads + Wait + Sync + Clock + Print + AllocGlobal>(rt: &R) -> io::Result<()> {
@@ -191,6 +336,10 @@ fn main(rt: HostRuntime) -> io::Result<()> {
         return Ok(());
     }
     turns_of_one(&rt)?;
+    changes_of_one(&rt)?;
+    ticks_of_one(&rt)?;
+    looks_of_one(&rt)?;
+    looks_beside_turns(&rt)?;
     turns_of_two(&rt)?;
     turns_of_four(&rt)?;
     own_cells(&rt)?;

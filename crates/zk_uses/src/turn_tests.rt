@@ -4,10 +4,15 @@ ghost use Rattle.zk_base.specs.declared.ids.Who.{Who};
 ghost use Rattle.zk_base.specs.Legal.{IsLegal};
 ghost use Rattle.zk_turn.specs.Passes.{AreNewPasses, IsNewPass};
 
+use crate::{Caller, two_callers};
 use std::snapshot::Snapshot;
 use std::test::Fail;
 use zk_base::{Engine, NoMemory, Recorded, Service, Who};
-use zk_turn::{Cell, Pass};
+use zk_model_wait::ClockOp;
+use zk_model_work::WorkOp;
+use zk_time::Clock;
+use zk_turn::{Cell, Look, Pass};
+use zk_work::Work;
 
 /// How many entries were made.
 #[derive(Drop)]
@@ -87,6 +92,8 @@ impl Engine for Tally {
 
 const PLAYER: Who = Who { number: 7, prio: 0 };
 
+const OTHER: Who = Who { number: 8, prio: 0 };
+
 /// The pass of a cell that was made for one player.
 fn only<S: Service>(cell: &Cell<S>, who: Who, mut passes: Vec<Pass<S>>) -> Pass<S>
     requires { AreNewPasses (IsLegal S.machine) S.start cell.now (who ∷ []) passes.items }
@@ -144,5 +151,69 @@ fn a_call_has_a_turn_of_its_own(rt: HostRuntime) -> Result<(), Fail> {
     );
     let history = cell.close(pass).into_history();
     assert_eq!(rt; history.len(), 2);
+    Ok(())
+}
+
+#[test]
+fn a_look_finds_what_was_submitted(rt: HostRuntime) -> Result<(), Fail> {
+    let work = Work::new(rt.alloc(), 1, &[9], &[true])?;
+    let (cell, passes) = Cell::new(rt.alloc(), work, &[PLAYER])?;
+    let mut pass = only(&cell, PLAYER, passes);
+    let first = cell.look(&mut pass, 0);
+    assert_eq!(rt; first, Look { word: 0, at: 0 });
+
+    let (mut pass, answer) = cell.call(&rt, pass, 0, WorkOp::Submit(0, Some(0)));
+    assert!(rt; answer?.is_some());
+    let second = cell.look(&mut pass, 0);
+    assert_eq!(rt;
+        second,
+        Look { word: 4, at: 1 },
+        "it waits, since the first entry"
+    );
+    assert_eq!(rt; pass.room(), 19_997, "a look takes room as an entry does");
+    let history = cell.close(pass).into_history();
+    assert_eq!(rt; history.len(), 1);
+    Ok(())
+}
+
+#[test]
+fn a_service_without_words_has_no_index_to_look_at(rt: HostRuntime) -> Result<(), Fail> {
+    assert_eq!(rt; <Clock as Service>::WORDS, 0);
+    let (cell, passes) = Cell::new(rt.alloc(), Clock::new(rt.alloc()), &[PLAYER])?;
+    let pass = only(&cell, PLAYER, passes);
+    let (pass, answer) = cell.call(&rt, pass, 0, ClockOp::Announce(1));
+    assert!(rt; answer?.is_some(), "its entries are made all the same");
+    assert_eq!(rt; (pass.front(), pass.room()), (1, 19_999));
+    let history = cell.close(pass).into_history();
+    assert_eq!(rt; history.len(), 1);
+    Ok(())
+}
+
+#[test]
+fn a_look_shows_what_another_submitted(rt: HostRuntime) -> Result<(), Fail> {
+    let work = Work::new(rt.alloc(), 2, &[9], &[true])?;
+    let (cell, passes) = Cell::new(rt.alloc(), work, &[PLAYER, OTHER])?;
+    let (first, second) = two_callers(&cell, PLAYER, OTHER, passes);
+    let Caller { who: _, mut pass } = second;
+    let mut held = cell.enter(&rt, first.pass);
+    let answer = held.act(0, WorkOp::Submit(1, Some(0)));
+    let within = cell.look(&mut pass, 1);
+    let mut first = cell.leave(held);
+    assert!(rt; answer?.is_some());
+    assert_eq!(rt;
+        within,
+        Look { word: 0, at: 0 },
+        "an entry isn't shown before its turn is over"
+    );
+    assert_eq!(rt; cell.look(&mut pass, 1), Look { word: 4, at: 1 });
+    assert_eq!(rt; pass.front(), 1, "what the look has shown is seen");
+    assert_eq!(rt;
+        cell.look(&mut pass, 0),
+        Look { word: 0, at: 1 },
+        "no look goes back behind that"
+    );
+    cell.join(&mut first, pass);
+    let history = cell.close(first).into_history();
+    assert_eq!(rt; history.len(), 1);
     Ok(())
 }

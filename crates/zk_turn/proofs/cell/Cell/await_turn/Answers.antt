@@ -1,5 +1,6 @@
 use Rattle.std.proofs.Common.{◌≡◌, ◌<◌, ◌%◌, ◌^◌, length, sym, ap, subst, ◌∙◌, arith}
 use Rattle.zk_base.specs.Legal.{IsLegal}
+use Rattle.zk_turn.specs.Words.{word_after}
 use Rattle.zk_turn.specs.Steps.{Took, Fits}
 use Rattle.zk_turn.proofs.Keeping.{awaits}
 use Rattle.zk_turn.proofs.cell.Cell.await_turn.Goals as goal
@@ -12,6 +13,7 @@ load-served-requires g c =
       c.loop.invariant.2 ∙ c.requires.table,
       wide,
       awaits (IsLegal g.S.Service.machine) (Fits g.S.Service.start g.S.Service.history)
+          (word_after g.S.Service.machine g.S.Service.word) g.S.Service.WORDS
           (g.S.Service.start shared.key.service.value) (length shared.key.players.items) shared.table_id.slots
           c.loop.seat.id c.loop.seat.me c.requires.waits.0 (ap (λ m. m.0.stage) c.loop.invariant.3 ∙ c.requires.waits.1),
     )

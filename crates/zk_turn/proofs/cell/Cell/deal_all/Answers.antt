@@ -15,7 +15,7 @@ deal-pass-requires-clause-first g c =
     let is = drop_more c.args.players.now c.loop-index.index none c.loop-index-test.true in
     let inv = c.loop-index.invariant in (
       drop (c.loop-index.index + 1) c.args.players.now,
-      inv.1 ∙ ap (λ (ws : List Who). (opened (g.S.Service.start (given_to c.args.self.now)) ws, [])) is,
+      inv.1 ∙ ap (λ (ws : List Who). (opened (g.S.Service.start (given_to c.args.self.now)) g.S.Service.WORDS ws, [])) is,
       subst Differ is inv.2,
     )
 
@@ -36,7 +36,7 @@ loop-index-preserved g c =
     let legal = IsLegal g.S.Service.machine in
     let start = g.S.Service.start in
     let cell = c.args.self.now in
-    let at_first = inv.1 ∙ ap (λ (ws : List Who). (opened (start (given_to cell)) ws, [])) is in
+    let at_first = inv.1 ∙ ap (λ (ws : List Who). (opened (start (given_to cell)) g.S.Service.WORDS ws, [])) is in
     let differ = subst Differ is inv.2 in
     let passes = AreNewPasses-push legal start cell (take index players) c.loop-index.passes.items
     (get_or players index none) c.deal-pass.result inv.3 c.deal-pass.ensures.pass in

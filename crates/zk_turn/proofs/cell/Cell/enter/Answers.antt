@@ -1,6 +1,7 @@
 use Rattle.std.proofs.Common.{◌<◌, Some, length, refl, sym, ap, subst, ◌∙◌, arith}
 use Rattle.zk_base.specs.Legal.{IsLegal}
 use Rattle.zk_turn.specs.Players.{GoesOn, own}
+use Rattle.zk_turn.specs.Words.{word_after, KeepsOthers}
 use Rattle.zk_turn.specs.Steps.{Fits}
 use Rattle.zk_turn.specs.Passes.{given_to}
 use Rattle.zk_turn.proofs.Players.{own-GoesOn}
@@ -19,6 +20,7 @@ fetch_add-ticket-requires g c =
       c.requires.own.table,
       wide,
       draws (IsLegal g.S.Service.machine) (Fits g.S.Service.start g.S.Service.history)
+          (word_after g.S.Service.machine g.S.Service.word) g.S.Service.WORDS
           (g.S.Service.start shared.key.service.value) (length shared.key.players.items) shared.table_id.slots seat.id seat.me
           c.requires.own.idle some,
     )
@@ -42,7 +44,8 @@ returns-clause-own g c =
     let same = taken_out c.await_turn.new.seat.me.1 _ _ took.service c.in-Some.service c.exchange.result
     (slot_taken c.fetch_add-ticket.new.seat.me c.await_turn.new.seat.me _ took.service took.now) c.exchange.ensures.2
     c.in-Some.is in
-    held_now (IsLegal g.S.Service.machine) g.S.Service.start g.S.Service.history c.args.self.now p c.exchange.new.seat
+    held_now (IsLegal g.S.Service.machine) g.S.Service.start g.S.Service.history
+    (KeepsOthers g.S.Service.machine g.S.Service.start g.S.Service.history g.S.Service.word g.S.Service.WORDS g.S.Service.touched) c.args.self.now p c.exchange.new.seat
     took.service c.in-Some.service drew.ticket ticket took.history
     c.requires.own c.requires.room (c.exchange.ensures.0 ∙ c.await_turn.ensures.table ∙ c.fetch_add-ticket.ensures.0) knows
     (λ o is. took.fit o (ap (λ m. m.0.start) drew.now ∙ is)) took.short same

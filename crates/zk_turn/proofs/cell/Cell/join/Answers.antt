@@ -1,5 +1,6 @@
 use Rattle.std.proofs.Common.{◌<◌, length, ap, ◌∙◌, arith}
 use Rattle.zk_base.specs.Legal.{IsLegal}
+use Rattle.zk_turn.specs.Words.{word_after}
 use Rattle.zk_turn.specs.Steps.{Fits}
 use Rattle.zk_turn.proofs.Keeping.{recalls}
 use Rattle.zk_turn.proofs.Joining.{merges}
@@ -20,6 +21,7 @@ join_seat-requires g c =
       c.requires.other.slots,
       wide,
       merges (IsLegal g.S.Service.machine) (Fits g.S.Service.start g.S.Service.history)
+          (word_after g.S.Service.machine g.S.Service.word) g.S.Service.WORDS
           (g.S.Service.start shared.key.service.value) (length shared.key.players.items) p.seat.id q.seat.id p.seat.me.0
           q.seat.me.0
           c.requires.into.idle c.requires.other.idle some,
@@ -34,6 +36,7 @@ load-into-requires g c =
       c.join_seat.ensures.0 ∙ c.requires.into.table,
       wide,
       recalls (IsLegal g.S.Service.machine) (Fits g.S.Service.start g.S.Service.history)
+          (word_after g.S.Service.machine g.S.Service.word) g.S.Service.WORDS
           (g.S.Service.start shared.key.service.value) (length shared.key.players.items) shared.table_id.slots seat.id seat.me,
     )
 

@@ -1,5 +1,6 @@
 use Rattle.std.proofs.Common.{◌<◌, length, arith}
 use Rattle.zk_base.specs.Legal.{IsLegal}
+use Rattle.zk_turn.specs.Words.{word_after}
 use Rattle.zk_turn.specs.Steps.{Fits}
 use Rattle.zk_turn.proofs.Keeping.{passes_on}
 use Rattle.zk_turn.proofs.cell.Cell.pass_on.Goals as goal
@@ -12,6 +13,7 @@ fetch_add-requires g c =
       c.requires.table,
       wide,
       passes_on (IsLegal g.S.Service.machine) (Fits g.S.Service.start g.S.Service.history)
+          (word_after g.S.Service.machine g.S.Service.word) g.S.Service.WORDS
           (g.S.Service.start shared.key.service.value) (length shared.key.players.items) shared.table_id.slots
           c.args.seat.now.id c.args.seat.now.me c.requires.ready,
     )

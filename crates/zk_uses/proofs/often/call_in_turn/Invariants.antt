@@ -1,0 +1,15 @@
+use Rattle.std.proofs.Common.{◌≡◌, ◌+◌, ◌≤◌, true, [], ◌∷◌}
+use Rattle.zk_base.specs.History.{IsAbove}
+use Rattle.zk_base.specs.Legal.{IsLegal}
+use Rattle.zk_turn.specs.Passes.{IsPassOf, given_to, pass_players, pass_who, pass_mine, pass_room}
+use Rattle.zk_uses.proofs.often.call_in_turn.Given as goal
+
+abbrev pub invariant-loop-step : goal.invariant-loop-step
+invariant-loop-step g l =
+    IsPassOf (IsLegal g.S.Service.machine) g.S.Service.start l.cell l.pass
+    × (pass_players l.pass ≡ l.fn.caller.who ∷ [])
+    × (pass_who l.pass ≡ l.fn.caller.who)
+    × IsAbove (pass_mine l.pass) l.fn.caller.who.number l.step
+    × (20000 ≤ l.step + pass_room l.pass)
+    × (g.S.Service.machine.in_range (g.S.Service.start (given_to l.cell)) l.op ≡ true)
+    × (g.S.Service.machine.in_range (g.S.Service.start (given_to l.cell)) l.other ≡ true)
