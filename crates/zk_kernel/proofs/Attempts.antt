@@ -1,11 +1,10 @@
 -- From an attempt at one service to the attempt of a step.
-use Rattle.std.proofs.Common.{◌≡◌, ◌≢◌, ◌⊎◌, inl, inr, ℕ, ◌+◌, ◌-◌, ◌^◌, ◌<◌, ◌≤◌, Bool, true, false, Some, None, Ok, Err, Option, Result, List, [], ◌∷◌, ◌++◌, length, refl, sym, ap, subst, ◌∙◌, arith, cond, nat_lt}
-use Rattle.std.specs.List.{slice_get}
-use Rattle.std.specs.Option.{option_map, option_and_then}
+use Rattle.std.proofs.Common.{◌≡◌, ℕ, ◌+◌, ◌<◌, ◌≤◌, Bool, true, false, Some, None, Ok, Err, Option, Result, List, [], ◌∷◌, ◌++◌, length, refl, sym, ap, subst, ◌∙◌, arith, cond, nat_lt}
+use Rattle.std.specs.Option.{option_map}
+use Rattle.std.proofs.lemmas.Bool.{ltb-true}
 use Rattle.zk_base.specs.declared.ids.Who.{Who}
 use Rattle.zk_base.specs.declared.ids.Entry.{Entry}
 use Rattle.zk_base.specs.declared.errors.NoMemory.{NoMemory}
-use Rattle.zk_base.specs.Causes.{Rose}
 use Rattle.zk_base.specs.Legal.{Machine, state_after}
 use Rattle.zk_base.specs.History.{entry}
 use Rattle.zk_worker.specs.declared.steps.Step.{Step}
@@ -17,9 +16,6 @@ use Rattle.zk_worker.specs.Shown.{Shown, shown_after, AllGrew}
 use Rattle.zk_worker.specs.Attempt.{reply_in, Attempted, ReadsAt}
 use Rattle.std.specs.Result.{IsErr}
 use Rattle.std.specs.Option.{option_map_or}
-use Rattle.zk_base.specs.declared.seen.Seen.{Seen}
-use Rattle.zk_model_wait.specs.declared.signal.SignalOp.{SignalOp}
-use Rattle.zk_model_wait.specs.declared.signal.SignalReply.{SignalReply}
 use Rattle.zk_model_work.specs.declared.ops.WorkOp.{WorkOp}
 use Rattle.zk_model_work.specs.declared.ops.WorkOp.TheVariants as work_ops
 use Rattle.zk_model_work.specs.declared.ops.WorkReply.{WorkReply}
@@ -27,22 +23,20 @@ use Rattle.zk_model_work.specs.Machine.{work_machine, in_range, flags_of}
 use Rattle.zk_model_work.specs.State.{State}
 use Rattle.zk_work.specs.declared.work.Work.{Work}
 use Rattle.zk_work.specs.Seen.{work_start}
-use Rattle.zk_work.specs.Words.{work_word}
+use Rattle.zk_work.specs.Words.{work_word, most_items}
 use Rattle.zk_work.proofs.Owed.{ranges}
 use Rattle.zk_turn.specs.declared.pass.Pass.{Pass}
 use Rattle.zk_turn.specs.Passes.{given_to}
 use Rattle.zk_worker.specs.declared.steps.Step.TheVariants as steps
 use Rattle.zk_worker.specs.declared.steps.StepReply.TheVariants as step_replies
-use Rattle.zk_worker.specs.Looks.{look_reply, look_at, looks_at, found_by}
 use Rattle.zk_worker.specs.Machines.{item_of}
 use Rattle.zk_worker.specs.Attempt.{IsMade, is_in_range}
-use Rattle.zk_worker.proofs.Looking.{reads-whole}
 use Rattle.zk_kernel.specs.declared.cells.Cells.{Cells}
 use Rattle.zk_kernel.specs.declared.passes.Passes.{Passes}
 use Rattle.zk_kernel.specs.Desks.{cells_machines, desk_shown}
-use Rattle.zk_kernel.specs.Seats.{IsEntered, Visited, seen_at}
-use Rattle.zk_kernel.specs.Rows.{IsEnteredAt, VisitedAt, IsSeenAt}
-use Rattle.zk_kernel.proofs.Desks.{grows-work, grows-signals}
+use Rattle.zk_kernel.specs.Seats.{Visited, seen_at}
+use Rattle.zk_kernel.specs.Rows.{VisitedAt}
+use Rattle.zk_kernel.proofs.Desks.{grows-work}
 
 -- an attempt at a service of which there is one: what is shown is `write` of its history
 module _ {S O R : Type 0} (machine : Machine S O R) (start : S) (m : Machines) (who : Who) (number : ℕ) (op : O) (step : Step) (tell : R → ℕ → StepReply) (old : Shown) (write : List (Entry O R) → Shown) (h : List (Entry O R))
@@ -99,6 +93,10 @@ in_range-after : (start : State) (h : List (Entry WorkOp WorkReply)) → in_rang
 in_range-after start [] = refl
 in_range-after start (e ∷ es) = in_range-after (work_machine.next start e.who e.op) es ∙ ranges start e.who e.op
 
+-- an item that may be looked at is in range
+item-in-range : (start : State) (item : ℕ) (o : Option ℕ) → o ≡ Some item → option_map_or (λ i. in_range start (work_ops.Remaining i)) o false ≡ true → in_range start (work_ops.Remaining item) ≡ true
+item-in-range start item o is taken = sym (ap (λ (o : Option ℕ). option_map_or (λ i. in_range start (work_ops.Remaining i)) o false) is) ∙ taken
+
 -- the word of an item that is in range is its flags
 flags-told : (start : State) (h : List (Entry WorkOp WorkReply)) (item word : ℕ) (o : Option ℕ) → o ≡ Some item → option_map_or (λ i. in_range start (work_ops.Remaining i)) o false ≡ true →
     word ≡ work_word (state_after work_machine start h) item → option_map (flags_of (state_after work_machine start h)) o ≡ Some word
@@ -106,19 +104,24 @@ flags-told start h item word o is taken told =
     ap (option_map (flags_of (state_after work_machine start h))) is
     ∙ ap (λ (n : ℕ). Some n) (sym (told ∙ ap (λ (b : Bool). cond b (flags_of (state_after work_machine start h) item) 0) within))
   where
-    first : in_range start (work_ops.Remaining item) ≡ true
-    first = sym (ap (λ (o : Option ℕ). option_map_or (λ i. in_range start (work_ops.Remaining i)) o false) is) ∙ taken
-
     within : nat_lt item (state_after work_machine start h).items ≡ true
-    within = ap (λ (f : WorkOp → Bool). f (work_ops.Remaining item)) (in_range-after start h) ∙ first
+    within = ap (λ (f : WorkOp → Bool). f (work_ops.Remaining item)) (in_range-after start h) ∙ item-in-range start item o is taken
 
--- a look at an item, under a turn
+-- and it has a word, where each item has one
+pub item-has-word : (k : Cells) (object item : ℕ) → item_of (cells_machines k) object ≡ Some item → is_in_range (cells_machines k) (steps.LookItem object) ≡ true →
+    (work_start (given_to k.work)).items ≤ most_items → item < most_items
+item-has-word k object item is taken few =
+    let start = work_start (given_to k.work) in
+    let within = ltb-true item start.items (item-in-range start item (item_of (cells_machines k) object) is taken) in
+    omega arith
+
+-- a look at an item, which takes no turn
 pub looked-item : (k : Cells) (p : Passes) (who : Who) (number object item word at : ℕ) (step : Step) (seat : Option (Pass Work WorkOp WorkReply State)) → OthersGrew who.number (seen_at p.work) (seen_at seat) →
     item_of (cells_machines k) object ≡ Some item → is_in_range (cells_machines k) (steps.LookItem object) ≡ true →
     word ≡ work_word (state_after work_machine (work_start (given_to k.work)) (seen_at seat)) item → at ≡ length (seen_at seat) → step ≡ steps.LookItem object →
-    IsMade false (cells_machines k) who number step (step_replies.Flags word at) (desk_shown p) (desk_shown (record p { work = seat }))
+    IsMade false (cells_machines k) who number step (step_replies.Flags word at) (desk_shown p) (desk_shown (record p { work = seat; looked = number + 1 }))
 looked-item k p who number object item word at step seat grew is taken told end asked =
-    subst (λ (s : Step). IsMade false (cells_machines k) who number s (step_replies.Flags word at) (desk_shown p) (desk_shown (record p { work = seat }))) (sym asked) (record {
+    subst (λ (s : Step). IsMade false (cells_machines k) who number s (step_replies.Flags word at) (desk_shown p) (desk_shown (record p { work = seat; looked = number + 1 }))) (sym asked) (record {
       found = desk_shown (record p { work = seat });
       since = grows-work who.number (desk_shown p) (seen_at seat) grew;
       replied = ap (option_map (λ flags. step_replies.Flags flags (length (seen_at seat)))) (flags-told (work_start (given_to k.work)) (seen_at seat) item word (item_of (cells_machines k) object) is taken told)
@@ -126,27 +129,3 @@ looked-item k p who number object item word at step seat grew is taken told end 
       read_at = tt;
       shown = refl;
     })
-
--- a look at a signal, under a turn
-pub looked-signal : (m : Machines) (who : Who) (number object : ℕ) (must : Bool) (old : Shown) (whole : old.looks ≡ None) (hs : List (List (Entry SignalOp SignalReply))) (seen : Seen) (step : Step) (told : Option StepReply) →
-    IsSeenAt who.number object old.signals hs seen → told ≡ look_reply must seen → step ≡ steps.LookSignal object must → Attempted false m who number step old (record old { signals = hs }) (Ok told)
-looked-signal m who number object must old whole hs seen step told looked tells asked =
-    subst (λ (s : Step). Attempted false m who number s old (record old { signals = hs }) (Ok told)) (sym asked) (by told answered)
-  where
-    new : Shown
-    new = record old { signals = hs }
-
-    answered : look_at old.looks hs object must ≡ told
-    answered = ap (λ (l : Option (List (List Seen))). look_at l hs object must) whole
-        ∙ ap (λ (o : Option (List (Entry SignalOp SignalReply))). option_and_then (λ h. option_and_then (look_reply must) (found_by (looks_at None object) h)) o) looked.there
-        ∙ ap (look_reply must) (sym looked.found) ∙ sym tells
-
-    by : (told : Option StepReply) → look_at old.looks hs object must ≡ told → Attempted false m who number (steps.LookSignal object must) old (record old { signals = hs }) (Ok told)
-    by None is = (grows-signals who.number old hs looked.grew, is)
-    by (Some reply) is = record {
-      found = new;
-      since = grows-signals who.number old hs looked.grew;
-      replied = is;
-      read_at = reads-whole m new who (steps.LookSignal object must) reply whole is;
-      shown = refl;
-    }

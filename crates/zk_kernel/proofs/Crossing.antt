@@ -1,7 +1,7 @@
 -- What goes from thread to thread: a caller with its passes, and a kernel by reference. In parts, since one search for all of it
 -- breaks off.
 use mir.Syntax.{Sym}
-use mathlib.Core.List.{List, [], ◌∷◌}
+use mathlib.Core.List.{[], ◌∷◌}
 use denote.Builtin.{One}
 use denote.Ref.{NamedLft}
 use denote.Struct.Tuple.{type_at, TupleAt}
@@ -24,9 +24,7 @@ use Rattle.zk_turn.specs.contracts.pass.Pass as pass
 use Rattle.zk_model_wait.specs.contracts.msgq.MsgqOp as msgq_op
 use Rattle.zk_model_wait.specs.contracts.msgq.MsgqReply as msgq_reply
 use Rattle.zk_model_wait.specs.contracts.msgq.MsgqStore as msgq_store
-use Rattle.zk_model_bus.specs.contracts.observer.ObsOp as obs_op
 use Rattle.zk_model_bus.specs.contracts.observer.ObsReply as obs_reply
-use Rattle.zk_model_bus.specs.contracts.observer.ObsStore as obs_store
 use Rattle.circular_buffer.proofs.Crosses.{Cells-send, Deed-send}
 use Rattle.zk_base.specs.contracts.message.Msg as message
 use Rattle.zk_kernel.specs.contracts.passes.Passes as passes
@@ -59,7 +57,9 @@ use Rattle.zk_time.specs.contracts.clock.Clock as clock
 use Rattle.zk_objects.specs.contracts.objects.Objects as table
 use Rattle.zk_sem.specs.contracts.sem.Sem as sem
 use Rattle.zk_msgq.specs.contracts.msgq.Msgq as msgq
-use Rattle.zk_poll.specs.contracts.signal.Signal as signal
+use Rattle.zk_signal.specs.contracts.pass.SigPass as sig_pass
+use Rattle.zk_signal.specs.contracts.signal.SharedSignal as shared_signal
+use Rattle.zk_kernel.specs.contracts.notes.Note as note
 use Rattle.zk_bus.specs.contracts.channel.Channel as chan
 use Rattle.zk_subq.specs.contracts.observer.Observer as observer
 
@@ -72,8 +72,8 @@ table_send = search (sendable, crosses) depth 60 fits 20000
 pub sem_send : IsSend sem.the_row
 sem_send = search (sendable, crosses) depth 60 fits 20000
 
-pub signal_send : IsSend signal.the_row
-signal_send = search (sendable, crosses) depth 60 fits 20000
+note_send : IsSend note.the_row
+note_send = search (sendable, crosses) depth 60 fits 20000
 
 pub chan_send : IsSend chan.the_row
 chan_send = search (sendable, crosses) depth 60 fits 20000
@@ -117,8 +117,23 @@ cell_sync S O R T g s =
       (search heap.crosses depth 4, tt),
     ))
 
+-- a pass of a signal goes anywhere
+sig_pass_send : IsSend sig_pass.the_row
+sig_pass_send =
+    recorded_send _ _ _ sig_pass.the_type.to_one
+    (struct_send (shape sig_pass.the_type) (seat.the_send _ _ (search sendable depth 14), (search sendable depth 14, tt)))
+
+-- and a signal is shared
+shared_sync : IsSync shared_signal.the_row
+shared_sync =
+    recorded_sync _ _ _ shared_signal.the_type.to_one
+    (struct_sync (shape shared_signal.the_type) (
+      search (sendable, shared.the_sync, lease.the_sync, heap.sync, heap.send, heap.frees) depth 24,
+      tt,
+    ))
+
 passes_send : IsSend passes.the_row
-passes_send = search (pass_send, work_send, clock_send, table_send, sem_send, msgq_send, signal_send, chan_send, observer_send, sendable, crosses) depth 40 fits 20000
+passes_send = search (pass_send, work_send, clock_send, table_send, sem_send, msgq_send, sig_pass_send, note_send, chan_send, observer_send, sendable, crosses) depth 40 fits 20000
 
 frame_send : IsSend frame.the_row
 frame_send = search (sendable, crosses) depth 60 fits 20000
@@ -166,7 +181,7 @@ cells_part = struct_sync (shape cells.the_type) (
           (
             search (cell_sync, msgq_send, sendable, crosses) depth 20,
             (
-              search (cell_sync, signal_send, sendable, crosses) depth 20,
+              search (shared_sync, sendable, crosses) depth 20,
               (
                 search (cell_sync, chan_send, sendable, crosses) depth 20,
                 (search (cell_sync, observer_send, sendable, crosses) depth 20, tt),

@@ -1,5 +1,5 @@
 -- What attempts leave of a caller's passes: whom they serve, what they count, and that all else stays.
-use Rattle.std.proofs.Common.{◌≡◌, ◌≢◌, ◌⊎◌, inl, inr, ℕ, ◌+◌, ◌-◌, ◌^◌, ◌<◌, ◌≤◌, Bool, true, false, Some, None, Ok, Err, Option, List, [], ◌∷◌, ◌++◌, length, refl, sym, ap, subst, ◌∙◌, arith, min}
+use Rattle.std.proofs.Common.{◌≡◌, ℕ, Some, None, Option, List, refl, sym, subst, ◌∙◌}
 use Rattle.zk_base.specs.declared.ids.Who.{Who}
 use Rattle.zk_base.specs.declared.ids.Entry.{Entry}
 use Rattle.zk_base.specs.Legal.{IsLegal}
@@ -15,8 +15,6 @@ use Rattle.zk_model_wait.specs.declared.sem.SemOp.{SemOp}
 use Rattle.zk_model_wait.specs.declared.sem.SemReply.{SemReply}
 use Rattle.zk_model_wait.specs.declared.msgq.MsgqOp.{MsgqOp}
 use Rattle.zk_model_wait.specs.declared.msgq.MsgqReply.{MsgqReply}
-use Rattle.zk_model_wait.specs.declared.signal.SignalOp.{SignalOp}
-use Rattle.zk_model_wait.specs.declared.signal.SignalReply.{SignalReply}
 use Rattle.zk_model_bus.specs.declared.channel.ChanOp.{ChanOp}
 use Rattle.zk_model_bus.specs.declared.channel.ChanReply.{ChanReply}
 use Rattle.zk_model_bus.specs.declared.observer.ObsOp.{ObsOp}
@@ -30,20 +28,20 @@ use Rattle.zk_worker.specs.Attempt.{SamePlayers}
 use Rattle.zk_worker.proofs.Between.{grew-none, grew-none_each, looks-none}
 use Rattle.zk_kernel.specs.declared.cells.Cells.{Cells}
 use Rattle.zk_kernel.specs.declared.passes.Passes.{Passes}
-use Rattle.zk_kernel.specs.Seats.{IsOwn, IsAt}
+use Rattle.zk_kernel.specs.Seats.{IsAt}
 use Rattle.zk_kernel.specs.Desks.{IsServed}
 
 -- a pass is of one player
-one-player : {S O R T : Type 0} (legal : T → List (Entry O R) → Type 0) (start : S → T) (c : Cell S O R T) (who who' : Who) (p p' : Option (Pass S O R T)) →
-    IsAt legal start c who p → IsAt legal start c who' p → who ≡ who'
-one-player legal start c who who' None p' at at' = absurd at
-one-player legal start c who who' (Some p) p' at at' = sym at.player ∙ at'.player
+one-player : {S O R T : Type 0} (legal : T → List (Entry O R) → Type 0) (start : S → T) (c : Cell S O R T) (who who' : Who) (looked looked' : ℕ) (p : Option (Pass S O R T)) →
+    IsAt legal start c who looked p → IsAt legal start c who' looked' p → who ≡ who'
+one-player legal start c who who' looked looked' None at at' = absurd at
+one-player legal start c who who' looked looked' (Some p) at at' = sym at.player ∙ at'.player
 
 -- the passes serve their player, and nobody else
 pub same-players : (k : Cells) (p p' : Passes) (who : Who) → IsServed k p who → IsServed k p' who → SamePlayers (IsServed k p) (IsServed k p')
 same-players k p p' who old new other = (
-  λ served. subst (IsServed k p') (one-player (IsLegal work_machine) work_start k.work who other p.work p.work old.work served.work) new,
-  λ served. subst (IsServed k p) (one-player (IsLegal work_machine) work_start k.work who other p'.work p'.work new.work served.work) old,
+  λ served. subst (IsServed k p') (one-player (IsLegal work_machine) work_start k.work who other p.looked p.looked p.work old.work served.work) new,
+  λ served. subst (IsServed k p) (one-player (IsLegal work_machine) work_start k.work who other p'.looked p'.looked p'.work new.work served.work) old,
 )
 
 -- one history, or those of one kind, went on
@@ -112,20 +110,6 @@ module _ (number : ℕ) (old : Shown) where
     sems = grew-none_each number old.sems;
     msgqs = grew;
     signals = grew-none_each number old.signals;
-    chans = grew-none_each number old.chans;
-    observers = grew-none_each number old.observers;
-    looks = looks-none old.looks;
-    looked = refl;
-  }
-
-  pub grows-signals : (h : List (List (Entry SignalOp SignalReply))) → EachGrew number old.signals h → AllGrew number old (record old { signals = h })
-  grows-signals h grew = record {
-    work = grew-none number old.work;
-    clock = grew-none number old.clock;
-    table = grew-none number old.table;
-    sems = grew-none_each number old.sems;
-    msgqs = grew-none_each number old.msgqs;
-    signals = grew;
     chans = grew-none_each number old.chans;
     observers = grew-none_each number old.observers;
     looks = looks-none old.looks;

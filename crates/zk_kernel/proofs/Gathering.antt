@@ -1,32 +1,35 @@
 -- The passes of callers put together.
-use Rattle.std.proofs.Common.{◌≡◌, ◌≢◌, ◌⊎◌, inl, inr, ⊎_elim, ℕ, ◌+◌, Bool, true, false, ◌||◌, Some, None, Option, List, [], ◌∷◌, ◌++◌, length, All, refl, sym, ap, subst, ◌∙◌, arith, eqb}
+use Rattle.std.proofs.Common.{◌≡◌, ◌≢◌, ℕ, ◌+◌, ◌-◌, ◌<◌, take, Bool, true, false, ◌||◌, Some, None, Ok, Err, Option, Result, List, [], ◌∷◌, ◌++◌, length, All, refl, sym, ap, subst, ◌∙◌, arith, eqb, append-nil}
 use Rattle.std.proofs.lemmas.Bool.{eq-eqb}
-use Rattle.std.specs.Prelude.{IfSome, option_to_list, map, reverse}
+use Rattle.std.specs.Prelude.{IfSome, IfOk, option_to_list, map, reverse}
 use Rattle.std.proofs.lemmas.List.{map_push, reverse-append, append_assoc, length-append}
 use Rattle.std.proofs.lemmas.List.Elements.{All-nil, All-cons, All-append, All-weaker, All-pop}
-use Rattle.zk_scenario.specs.Content.{Content}
-use Rattle.zk_world.specs.SoundPlayer.{IsSoundPlayer}
-use Rattle.zk_world.proofs.Players.{player-still}
-use Rattle.zk_kernel.specs.declared.caller.Caller.{Caller}
-use Rattle.zk_kernel.specs.Callers.{IsPlaying, place_of, shown_to}
 use Rattle.zk_base.specs.declared.ids.Who.{Who}
 use Rattle.zk_base.specs.declared.ids.Entry.{Entry}
+use Rattle.zk_base.specs.declared.seen.Seen.{Seen}
+use Rattle.zk_base.specs.declared.errors.NoMemory.{NoMemory}
 use Rattle.zk_turn.specs.declared.pass.Pass.{Pass}
 use Rattle.zk_turn.specs.declared.cell.Cell.{Cell}
 use Rattle.zk_turn.specs.Players.{is_by, has, GoesOn}
 use Rattle.zk_worker.specs.Places.{PlayerPlace}
 use Rattle.zk_worker.specs.Single.{OthersGrew}
 use Rattle.zk_worker.specs.Families.{EachGrew}
-use Rattle.zk_worker.specs.Shown.{Shown, AllGrew, OnlyOthersCame}
-use Rattle.std.specs.List.{AllZip}
-use Rattle.zk_worker.proofs.Between.{looks-none, between-both}
-use Rattle.zk_worker.specs.Looks.{LooksGrew}
+use Rattle.zk_worker.specs.Shown.{Shown, AllGrew}
+use Rattle.zk_worker.proofs.Between.{looks-none, grew-none_each, between-none, between-both}
+use Rattle.zk_kernel.specs.declared.caller.Caller.{Caller}
 use Rattle.zk_kernel.specs.declared.cells.Cells.{Cells}
+use Rattle.zk_kernel.specs.declared.notes.Note.{Note}
 use Rattle.zk_kernel.specs.declared.passes.Passes.{Passes}
+use Rattle.zk_kernel.specs.Callers.{place_of, shown_to, shown_by}
 use Rattle.zk_kernel.specs.Seats.{IsAt}
 use Rattle.zk_kernel.specs.Desks.{IsServed, desk_shown}
-use Rattle.zk_kernel.specs.Rows.{IsSeat, AreSeats}
-use Rattle.zk_kernel.specs.Joined.{StandsFor, StandsIn, AllStand, EachGoesOn, AreFor, AllGoOn, whos, IsKept, AreGathered, AreTogether, GoOnFrom, IsAmong}
+use Rattle.zk_kernel.specs.Lasting.{late}
+use Rattle.zk_kernel.specs.Notes.{writes_at}
+use Rattle.zk_kernel.specs.Signals.{looks_at_number}
+use Rattle.zk_kernel.specs.Rows.{AreSeats}
+use Rattle.zk_kernel.specs.Joined.{StandsFor, AllStand, EachGoesOn, AreFor, AllGoOn, whos, players_of, numbers_of, left_at, HaveShared, noted_by, found_at, all_noted, all_found, IsAmong, AreGathered, AreTogether}
+use Rattle.zk_kernel.proofs.Noted.{left-append}
+use Rattle.zk_kernel.proofs.Sharing.{own-shared, shared-same}
 
 has_left : (ws us : List Who) (n : ℕ) → has ws n ≡ true → has (ws ++ us) n ≡ true
 has_left [] us n is = absurd (cc)
@@ -62,34 +65,25 @@ module _ {O R : Type 0} where
   grew_each ws n (o ∷ os) [] among goes = absurd goes
   grew_each ws n (o ∷ os) (h ∷ hs) among goes = (grew_many ws n o h among goes.0, grew_each ws n os hs among goes.1)
 
-pub all_grew : (ws : List Who) (n : ℕ) (old new : Shown) → has ws n ≡ true → AllGoOn ws old new → AllGrew n old new
-all_grew ws n old new among goes = record {
+-- what is shown to a caller goes on as the cells' histories do
+pub late-grew : (ws : List Who) (n : ℕ) (mine old new : Shown) → has ws n ≡ true → AllGoOn ws old new → AllGrew n (late mine old) (late mine new)
+late-grew ws n mine old new among goes = record {
   work = grew_many ws n old.work new.work among goes.work;
   clock = grew_many ws n old.clock new.clock among goes.clock;
   table = grew_many ws n old.table new.table among goes.table;
   sems = grew_each ws n old.sems new.sems among goes.sems;
   msgqs = grew_each ws n old.msgqs new.msgqs among goes.msgqs;
-  signals = grew_each ws n old.signals new.signals among goes.signals;
+  signals = grew-none_each n mine.signals;
   chans = grew_each ws n old.chans new.chans among goes.chans;
   observers = grew_each ws n old.observers new.observers among goes.observers;
-  looks = subst (LooksGrew old.looks) (sym goes.looks) (looks-none old.looks);
-  looked = goes.looked;
+  looks = looks-none mine.looks;
+  looked = refl;
 }
 
--- what holds of a player and its log stays so as others' entries come
-sound-still : (s : Content) (ws : List Who) (old new : Shown) (at : PlayerPlace) → has ws at.who.number ≡ true → AllGoOn ws old new → IsSoundPlayer s old at → IsSoundPlayer s new at
-sound-still s ws old new at among goes sound = player-still false s at old new (all_grew ws at.who.number old new among goes) sound
-
-still_kept : (s : Content) (ws us : List Who) (old new : Shown) → AllGoOn ws old new → (at : PlayerPlace) → IsKept s ws old at → IsKept s (ws ++ us) new at
-still_kept s ws us old new goes at kept = record { among = has_left ws us at.who.number kept.among; sound = sound-still s ws old new at kept.among goes kept.sound }
-
-newly_kept : (s : Content) (ws us : List Who) (old new : Shown) → AllGoOn us old new → (at : PlayerPlace) → has us at.who.number ≡ true → IsSoundPlayer s old at → IsKept s (ws ++ us) new at
-newly_kept s ws us old new goes at among sound = record { among = has_right ws us at.who.number among; sound = sound-still s us old new at among goes sound }
-
 module _ {S O R T : Type 0} (legal : T → List (Entry O R) → Type 0) (start : S → T) (who : Who) where
-  own_stands : (c : Cell S O R T) (o : Option (Pass S O R T)) → IsAt legal start c who o → StandsFor legal start (who ∷ []) c o
-  own_stands c None is = is
-  own_stands c (Some p) is = record { of_cell = is.of_cell; players = is.only }
+  own_stands : (c : Cell S O R T) (looked : ℕ) (o : Option (Pass S O R T)) → IsAt legal start c who looked o → StandsFor legal start (who ∷ []) c o
+  own_stands c looked None is = is
+  own_stands c looked (Some p) is = record { of_cell = is.of_cell; players = is.only }
 
   own_stand : (cs : List (Option (Cell S O R T))) (ps : List (Option (Pass S O R T))) → AreSeats legal start who cs ps → AllStand legal start (who ∷ []) cs ps
   own_stand [] [] all = tt
@@ -97,71 +91,99 @@ module _ {S O R T : Type 0} (legal : T → List (Entry O R) → Type 0) (start :
   own_stand (c ∷ cs) [] all = absurd all
   own_stand (None ∷ cs) (None ∷ ps) all = (tt, own_stand cs ps all.1)
   own_stand (None ∷ cs) (Some p ∷ ps) all = absurd all.0
-  own_stand (Some c ∷ cs) (p ∷ ps) all = (own_stands c p all.0, own_stand cs ps all.1)
+  own_stand (Some c ∷ cs) (p ∷ ps) all = (own_stands c 0 p all.0, own_stand cs ps all.1)
 
 pub served_for : (c : Cells) (p : Passes) (who : Who) → IsServed c p who → AreFor c (who ∷ []) p
 served_for c p who is = record {
-  work = own_stands _ _ who c.work p.work is.work;
-  clock = own_stands _ _ who c.clock p.clock is.clock;
-  table = own_stands _ _ who c.table p.table is.table;
+  work = own_stands _ _ who c.work p.looked p.work is.work;
+  clock = own_stands _ _ who c.clock 0 p.clock is.clock;
+  table = own_stands _ _ who c.table 0 p.table is.table;
   sems = own_stand _ _ who c.sems.items p.sems.items is.sems;
   msgqs = own_stand _ _ who c.msgqs.items p.msgqs.items is.msgqs;
-  signals = own_stand _ _ who c.signals.items p.signals.items is.signals;
   chans = own_stand _ _ who c.chans.items p.chans.items is.chans;
   observers = own_stand _ _ who c.observers.items p.observers.items is.observers;
 }
 
+-- what is noted with one caller more, and what was found
+noted-push : (callers : List Caller) (x : Caller) → all_noted (callers ++ x ∷ []) ≡ all_noted callers ++ noted_by x.passes
+noted-push [] x = append-nil (noted_by x.passes)
+noted-push (c ∷ callers) x =
+    ap (λ (l : List Note). noted_by c.passes ++ l) (noted-push callers x)
+    ∙ sym (append_assoc (noted_by c.passes) (all_noted callers) (noted_by x.passes))
+
+found-push : (callers : List Caller) (x : Caller) (object : ℕ) → all_found (callers ++ x ∷ []) object ≡ all_found callers object ++ found_at x.passes object
+found-push [] x object = append-nil (found_at x.passes object)
+found-push (c ∷ callers) x object =
+    ap (λ (l : List Seen). found_at c.passes object ++ l) (found-push callers x object)
+    ∙ sym (append_assoc (found_at c.passes object) (all_found callers object) (found_at x.passes object))
+
+players-push : (callers : List Caller) (x : Caller) → players_of (callers ++ x ∷ []) ≡ players_of callers ++ (place_of x).who ∷ []
+players-push callers x = ap whos (map_push place_of callers x) ∙ map_push (λ (a : PlayerPlace). a.who) (map place_of callers) (place_of x)
+
+-- what a caller's own passes noted and found at signals
+pub own-noted : (c : Cells) (p : Passes) (who : Who) → IsServed c p who →
+    HaveShared (who.number ∷ []) (left_at p.notes.items) (looks_at_number p.signals.items) c.signals.items p.signals.items
+own-noted c p who served = own-shared who (writes_at p.notes.items) c.signals.items p.signals.items served.signals
+
 -- the passes of the first caller
-pub first_together : (c : Cells) (s : Content) (p : Passes) (at : PlayerPlace) → IsPlaying c s at p → AreGathered c s (at ∷ []) p
-first_together c s p at playing =
-    let Q : PlayerPlace → Type 0 = IsKept s (at.who ∷ []) (desk_shown p) in
+pub first_together : (c : Cells) (p : Passes) (x : Caller) → x.passes ≡ Some p → IsServed c p (place_of x).who → AreGathered c (x ∷ []) p
+first_together c p x is served =
+    let who = (place_of x).who in
+    let Q : Caller → Type 0 = IsAmong (who ∷ []) p in
+    let noted : p.notes.items ≡ noted_by x.passes ++ [] = sym (append-nil (noted_by x.passes) ∙ ap noted_by is) in
     record {
-      stand = served_for c p at.who playing.served;
-      kept = All-cons Q at [] (record { among = has_self at.who; sound = playing.sound }) (All-nil Q);
+      stand = served_for c p who served;
+      notes = noted;
+      signals = shared-same (who.number ∷ []) (left_at p.notes.items) (left_at (noted_by x.passes ++ [])) (looks_at_number p.signals.items) (all_found (x ∷ [])) c.signals.items p.signals.items
+          (λ k. ap (λ (l : List Note). left_at l k) noted)
+          (λ k. sym (append-nil (found_at x.passes k) ∙ ap (λ (o : Option Passes). found_at o k) is))
+          (own-noted c p who served);
+      kept = All-cons Q x [] (record {
+        among = has_self who;
+        seen = subst (λ (o : Option Passes). AllGrew who.number (shown_by o) (late (shown_by o) (desk_shown p))) (sym is) (between-none false who.number (desk_shown p));
+      }) (All-nil Q);
     }
 
 -- one caller more
-pub more_together : (c : Cells) (s : Content) (into other now : Passes) (players : List PlayerPlace) (at : PlayerPlace) → AreGathered c s players into → IsPlaying c s at other →
-    AreFor c (whos players ++ at.who ∷ []) now → AllGoOn (whos players) (desk_shown into) (desk_shown now) → AllGoOn (at.who ∷ []) (desk_shown other) (desk_shown now) →
-    AreGathered c s (players ++ at ∷ []) now
-more_together c s into other now players at gathered playing stand goes goes' =
-    let ws = whos players in
-    let us : List Who = at.who ∷ [] in
-    let P : PlayerPlace → Type 0 = IsKept s ws (desk_shown into) in
-    let Q : PlayerPlace → Type 0 = IsKept s (ws ++ us) (desk_shown now) in
-    let told : whos (players ++ at ∷ []) ≡ ws ++ us = map_push (λ (a : PlayerPlace). a.who) players at in
-    let kept : All Q (players ++ at ∷ []) = All-append Q players (at ∷ []) (All-weaker P Q (still_kept s ws us (desk_shown into) (desk_shown now) goes) players gathered.kept)
-    (All-cons Q at [] (newly_kept s ws us (desk_shown other) (desk_shown now) goes' at (has_self at.who) playing.sound) (All-nil Q)) in
+pub more_together : (c : Cells) (into other now : Passes) (callers : List Caller) (x : Caller) → AreGathered c callers into → x.passes ≡ Some other →
+    AreFor c (players_of callers ++ (place_of x).who ∷ []) now → AllGoOn (players_of callers) (desk_shown into) (desk_shown now) → AllGoOn ((place_of x).who ∷ []) (desk_shown other) (desk_shown now) →
+    now.notes.items ≡ into.notes.items ++ other.notes.items →
+    HaveShared (numbers_of (players_of callers) ++ (place_of x).who.number ∷ []) (λ k. left_at (all_noted callers) k ++ left_at other.notes.items k) (λ k. all_found callers k ++ looks_at_number other.signals.items k)
+    c.signals.items now.signals.items →
+    AreGathered c (callers ++ x ∷ []) now
+more_together c into other now callers x gathered is stand goes goes' noted shared =
+    let ws = players_of callers in
+    let who = (place_of x).who in
+    let us : List Who = who ∷ [] in
+    let told : players_of (callers ++ x ∷ []) ≡ ws ++ us = players-push callers x in
+    let numbers : numbers_of (players_of (callers ++ x ∷ [])) ≡ numbers_of ws ++ who.number ∷ [] = ap numbers_of told ∙ map_push (λ (w : Who). w.number) ws who in
+    let all : all_noted (callers ++ x ∷ []) ≡ all_noted callers ++ other.notes.items = noted-push callers x ∙ ap (λ (o : Option Passes). all_noted callers ++ noted_by o) is in
+    let P : Caller → Type 0 = IsAmong ws into in
+    let Q : Caller → Type 0 = IsAmong (ws ++ us) now in
+    let still : (y : Caller) → P y → Q y = λ y among.
+    let n = (place_of y).who.number in
+    record {
+      among = has_left ws us n among.among;
+      seen = between-both false n (shown_to y) (late (shown_to y) (desk_shown into)) (late (shown_to y) (desk_shown now)) among.seen
+          (late-grew ws n (shown_to y) (desk_shown into) (desk_shown now) among.among goes);
+    } in
+    let here : Q x = record {
+      among = has_right ws us who.number (has_self who);
+      seen = subst (λ (o : Option Passes). AllGrew who.number (shown_by o) (late (shown_by o) (desk_shown now))) (sym is)
+          (late-grew us who.number (desk_shown other) (desk_shown other) (desk_shown now) (has_self who) goes');
+    } in
     record {
       stand = subst (λ (l : List Who). AreFor c l now) (sym told) stand;
-      kept = subst (λ (l : List Who). All (IsKept s l (desk_shown now)) (players ++ at ∷ [])) (sym told) kept;
+      notes = noted ∙ ap (λ (l : List Note). l ++ other.notes.items) gathered.notes ∙ sym all;
+      signals = subst (λ (l : List ℕ). HaveShared l (left_at (all_noted (callers ++ x ∷ []))) (all_found (callers ++ x ∷ [])) c.signals.items now.signals.items) (sym numbers)
+          (shared-same (numbers_of ws ++ who.number ∷ []) (λ k. left_at (all_noted callers) k ++ left_at other.notes.items k) (left_at (all_noted (callers ++ x ∷ [])))
+          (λ k. all_found callers k ++ looks_at_number other.signals.items k) (all_found (callers ++ x ∷ [])) c.signals.items now.signals.items
+          (λ k. sym (ap (λ (l : List Note). left_at l k) all ∙ left-append (all_noted callers) other.notes.items k))
+          (λ k. sym (found-push callers x k ∙ ap (λ (o : Option Passes). all_found callers k ++ found_at o k) is))
+          shared);
+      kept = subst (λ (l : List Who). All (IsAmong l now) (callers ++ x ∷ [])) (sym told)
+          (All-append Q callers (x ∷ []) (All-weaker P Q still callers gathered.kept) (All-cons Q x [] here (All-nil Q)));
     }
-
--- a caller that was put to the passes before is among those now
-still-among : (c : Cells) (s : Content) (players : List PlayerPlace) (us : List Who) (all : Option Passes) (now : Passes) → AreTogether c s players all → GoOnFrom (whos players) all now →
-    (x : Caller) → IsAmong (whos players) all x → IsAmong (whos players ++ us) (Some now) x
-still-among c s players us None now together goes x is = absurd (
-    let none = ap (λ (ps : List PlayerPlace). has (whos ps) (place_of x).who.number) together in
-    let never = sym none ∙ is.among in cc)
-still-among c s players us (Some into) now together goes x is =
-    let n = (place_of x).who.number in
-    record {
-      among = has_left (whos players) us n is.among;
-      seen = between-both false n (shown_to x) (desk_shown into) (desk_shown now) is.seen (all_grew (whos players) n (desk_shown into) (desk_shown now) is.among goes);
-    }
-
--- and so is one more
-pub more-among : (c : Cells) (s : Content) (players players' : List PlayerPlace) (all : Option Passes) (now : Passes) (front : List Caller) (x : Caller) → AreTogether c s players all →
-    GoOnFrom (whos players) all now → OnlyOthersCame false (place_of x).who.number (shown_to x) (desk_shown now) → players' ≡ players ++ place_of x ∷ [] →
-    All (IsAmong (whos players) all) front → All (IsAmong (whos players') (Some now)) (front ++ x ∷ [])
-more-among c s players players' all now front x together goes later more among =
-    let us : List Who = (place_of x).who ∷ [] in
-    let told : whos players' ≡ whos players ++ us = ap whos more ∙ map_push (λ (a : PlayerPlace). a.who) players (place_of x) in
-    let P : Caller → Type 0 = IsAmong (whos players) all in
-    let Q : Caller → Type 0 = IsAmong (whos players ++ us) (Some now) in
-    let here : Q x = record { among = has_right (whos players) us (place_of x).who.number (has_self (place_of x).who); seen = later } in
-    subst (λ (ws : List Who). All (IsAmong ws (Some now)) (front ++ x ∷ [])) (sym told)
-    (All-append Q front (x ∷ []) (All-weaker P Q (still-among c s players us all now together goes) front among) (All-cons Q x [] here (All-nil Q)))
 
 -- the callers taken so far, and those that are left
 pub split-next : (xs ys : List Caller) (r : Option Caller) (c : Caller) (front : List Caller) → xs ≡ ys ++ option_to_list r → r ≡ Some c → front ++ reverse xs ≡ (front ++ c ∷ []) ++ reverse ys
@@ -176,14 +198,37 @@ popped P xs ys r c items is all =
     let both = All-pop P xs ys r items all in
     (both.0, subst (λ (o : Option Caller). IfSome o P) is both.1)
 
--- and its place goes to those taken before it
-pub placed-next : (xs ys : List Caller) (r : Option Caller) (c : Caller) (front front' : List PlayerPlace) → xs ≡ ys ++ option_to_list r → r ≡ Some c → front' ≡ front ++ place_of c ∷ [] →
-    front ++ map place_of (reverse xs) ≡ front' ++ map place_of (reverse ys)
-placed-next xs ys r c front front' items is more =
-    ap (λ (l : List Caller). front ++ map place_of (reverse l)) (items ∙ ap (λ (o : Option Caller). ys ++ option_to_list o) is)
-    ∙ ap (λ (l : List Caller). front ++ map place_of l) (reverse-append ys (c ∷ []))
-    ∙ sym (append_assoc front (place_of c ∷ []) (map place_of (reverse ys)))
-    ∙ ap (λ (l : List PlayerPlace). l ++ map place_of (reverse ys)) (sym more)
-
 pub one_fewer : (xs ys : List Caller) (r : Option Caller) (c : Caller) → xs ≡ ys ++ option_to_list r → r ≡ Some c → length xs ≡ length ys + 1
 one_fewer xs ys r c items is = ap (λ (l : List Caller). length l) items ∙ ap (λ (o : Option Caller). length (ys ++ option_to_list o)) is ∙ length-append ys (c ∷ [])
+
+-- the passes of one caller more, by its own
+pub gathered-next : (cells kept : Cells) (all : Option Passes) (p : Passes) (x : Caller) (result : Result Passes NoMemory) → cells ≡ kept → x.passes ≡ Some p → IsServed kept p (place_of x).who →
+    IfOk result (λ made. (callers : List Caller) (c : Caller) → AreTogether cells callers all → c.passes ≡ Some p → IsServed cells p (place_of c).who → AreGathered cells (callers ++ c ∷ []) made) →
+    IfOk result (λ made. (callers : List Caller) → AreTogether kept callers all → AreGathered kept (callers ++ x ∷ []) made)
+gathered-next cells kept all p x (Err e) same is served made = tt
+gathered-next cells kept all p x (Ok now) same is served made = λ callers together.
+    subst (λ (cs : Cells). AreGathered cs (callers ++ x ∷ []) now) same
+    (made callers x (subst (λ (cs : Cells). AreTogether cs callers all) (sym same) together) is (subst (λ (cs : Cells). IsServed cs p (place_of x).who) (sym same) served))
+
+-- nothing is left where none could be taken
+pub none-left : (left now : List Caller) (n : ℕ) → left ≡ now ++ [] → now ≡ take (n - 1) left → n ≡ 0 → left ≡ []
+none-left left now n items rest none = items ∙ ap (λ (l : List Caller). l ++ []) (rest ∙ ap (λ (k : ℕ). take (k - 1) left) none)
+
+-- all callers were taken
+taken-all : (callers front left : List Caller) → callers ≡ front ++ reverse left → left ≡ [] → callers ≡ front
+taken-all callers front left split none = split ∙ ap (λ (l : List Caller). front ++ reverse l) none ∙ append-nil front
+
+pub gathered-whole : (c : Cells) (callers front left : List Caller) (o : Option Passes) (all : Passes) → AreTogether c front o → o ≡ Some all → callers ≡ front ++ reverse left → left ≡ [] → AreGathered c callers all
+gathered-whole c callers front left o all together is split none =
+    subst (λ (cs : List Caller). AreGathered c cs all) (sym (taken-all callers front left split none))
+    (subst (λ (p : Option Passes). AreTogether c front p) is together)
+
+pub placed-whole : (players : List PlayerPlace) (callers front left : List Caller) → players ≡ map place_of front → callers ≡ front ++ reverse left → left ≡ [] → players ≡ map place_of callers
+placed-whole players callers front left placed split none = placed ∙ ap (map place_of) (sym (taken-all callers front left split none))
+
+-- and there were some
+pub some-gathered : (c : Cells) (callers front left : List Caller) (o : Option Passes) (n : ℕ) → 0 < n → length callers ≡ n → AreTogether c front o → o ≡ None → callers ≡ front ++ reverse left → left ≡ [] → ⊥
+some-gathered c callers front left o n some many together is split none =
+    let empty : front ≡ [] = subst (λ (p : Option Passes). AreTogether c front p) is together in
+    let long : length callers ≡ 0 = ap (λ (l : List Caller). length l) (taken-all callers front left split none ∙ empty) in
+    omega arith

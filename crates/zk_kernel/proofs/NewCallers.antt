@@ -1,5 +1,5 @@
 -- The callers of a new kernel.
-use Rattle.std.proofs.Common.{◌≡◌, ℕ, zero, suc, ◌+◌, ◌<◌, ◌≤◌, Bool, false, true, ◌||◌, eqb, Option, Some, None, List, [], ◌∷◌, ◌++◌, length, map, option_map, get_or, All, reverse, append_assoc, refl, sym, ap, subst, ◌∙◌, arith}
+use Rattle.std.proofs.Common.{◌≡◌, ℕ, zero, suc, ◌+◌, ◌<◌, ◌≤◌, ◌^◌, Bool, false, true, ◌||◌, eqb, Option, Some, None, List, [], ◌∷◌, ◌++◌, length, map, option_map, get_or, All, reverse, append_assoc, refl, sym, ap, subst, ◌∙◌, arith}
 use Rattle.std.specs.Prelude.{slice_get}
 use Rattle.std.proofs.lemmas.Bool.{ne_eqb}
 use Rattle.std.proofs.lemmas.List.{length-map, map-append, reverse-append}
@@ -8,11 +8,16 @@ use Rattle.std.proofs.lemmas.Option.{slice_get-map, slice_get-get_or, slice_get_
 use Rattle.zk_base.specs.Legal.{IsLegal}
 use Rattle.zk_base.specs.declared.ids.Who.{Who}
 use Rattle.zk_base.specs.declared.ids.Entry.{Entry}
+use Rattle.zk_base.specs.RecordedView.{RecordedView}
 use Rattle.zk_line.specs.declared.types.Decl.{Decl}
+use Rattle.zk_line.specs.declared.types.Decl.TheVariants as decls_of
+use Rattle.zk_line.specs.Objects.{places, is_item}
 use Rattle.zk_model_wait.specs.Clock.{clock_machine}
 use Rattle.zk_model_wait.specs.Sem.{sem_machine}
 use Rattle.zk_model_wait.specs.Msgq.{msgq_machine}
-use Rattle.zk_model_wait.specs.Signal.{signal_machine}
+use Rattle.zk_model_wait.specs.Signal.{Signal, new_signal}
+use Rattle.zk_model_wait.specs.declared.signal.SignalOp.{SignalOp}
+use Rattle.zk_model_wait.specs.declared.signal.SignalReply.{SignalReply}
 use Rattle.zk_model_bus.specs.Channel.{chan_machine}
 use Rattle.zk_model_bus.specs.Observer.{obs_machine}
 use Rattle.zk_model_bus.specs.Table.{table_machine}
@@ -20,11 +25,13 @@ use Rattle.zk_model_work.specs.Machine.{work_machine}
 use Rattle.zk_bus.specs.Seen.{chan_start, chan_history}
 use Rattle.zk_msgq.specs.Seen.{msgq_start, msgq_history}
 use Rattle.zk_objects.specs.Seen.{objects_start}
-use Rattle.zk_poll.specs.Seen.{signal_start, signal_history}
+use Rattle.zk_poll.specs.Seen.{signal_start}
+use Rattle.zk_signal.specs.declared.signal.SharedSignal.{SharedSignal}
 use Rattle.zk_sem.specs.Seen.{sem_start, sem_history}
 use Rattle.zk_subq.specs.Seen.{obs_start, obs_history}
 use Rattle.zk_time.specs.ClockSeen.{clock_start}
 use Rattle.zk_work.specs.Seen.{work_start}
+use Rattle.zk_work.specs.Words.{most_items}
 use Rattle.zk_scenario.specs.Content.{Content}
 use Rattle.zk_scenario.specs.Players.{players}
 use Rattle.zk_scenario.specs.Valid.{IsValid}
@@ -42,23 +49,27 @@ use Rattle.zk_worker.specs.Protocol.{start_at}
 use Rattle.zk_worker.specs.Shown.{Shown, nothing_shown}
 use Rattle.zk_services.specs.declared.plain.Plain.{Plain}
 use Rattle.zk_services.specs.Alone.{plain_machines, plain_shown}
-use Rattle.zk_services.specs.Objects.{history_of, histories_of}
+use Rattle.zk_services.specs.Objects.{history_of, histories_of, starts_of}
 use Rattle.zk_services.specs.Starts.{starts}
+use Rattle.zk_services.proofs.Firsts.{few-items}
 use Rattle.zk_services.proofs.Starts.{length-starts, numbers-starts, starts-there}
-use Rattle.zk_world.proofs.Players.{player-first}
 use Rattle.zk_kernel.specs.declared.caller.Caller.{Caller}
 use Rattle.zk_kernel.specs.declared.cells.Cells.{Cells}
 use Rattle.zk_kernel.specs.declared.dealing.Undealt.{Undealt}
 use Rattle.zk_kernel.specs.declared.passes.Passes.{Passes}
 use Rattle.zk_kernel.specs.Callers.{IsAtDesk, IsCaller, place_of, shown_by, counts_by}
-use Rattle.zk_kernel.specs.Dealt.{IsUnused, AreUnused, AreUndealt, IsDealt, AreNew, HasNew, IsUnplayed}
+use Rattle.zk_kernel.specs.declared.notes.Note.{Note}
+use Rattle.zk_kernel.specs.Dealt.{IsBegun, IsUnused, AreUnused, AreUndealt, IsDealt, AreNew, HasNew, IsUnplayed}
 use Rattle.zk_kernel.specs.Desks.{IsServed, cells_machines, desk_shown, desk_counts, capped}
 use Rattle.zk_kernel.specs.Joined.{whos}
 use Rattle.zk_kernel.specs.Kernels.{Shared, AreWhole, IsMadeFor}
-use Rattle.zk_kernel.specs.Opened.{IsNewCaller, AreNewCallers}
-use Rattle.zk_kernel.specs.Rests.{AreAllCallers}
+use Rattle.zk_kernel.specs.Notes.{Write, writes_at}
+use Rattle.zk_kernel.specs.Opened.{nothing_seen, AreNewCallers}
 use Rattle.zk_kernel.specs.Rows.{starts_in, holds_in}
 use Rattle.zk_kernel.specs.Seats.{holds_at}
+use Rattle.zk_kernel.specs.Signals.{signals_by, looks_in, IsShownIn, HaveOwn, AreNoted}
+use Rattle.zk_kernel.proofs.NewShares.{all-sig-left-taken, own-new, shown-none, looks-none, idle-none}
+use Rattle.zk_kernel.proofs.SoundLooks.{player-seen}
 use Rattle.zk_kernel.proofs.NewPasses.{left-taken, all-left-taken, at-new, seats-new, seen-new, idle-new, all-seen-new, all-idle-new}
 
 -- where nothing is shown of services nothing was done at them
@@ -79,14 +90,30 @@ unused-row {E} history (x ∷ objects) (d ∷ decls) none =
     All-cons (IsUnused history) x objects (unused history x (ap (λ (l : List (List E)). get_or l 0 []) none))
     (unused-row history objects decls (ap (behind {A = List E}) none))
 
-pub unused-all : (p : Plain) (decls : List Decl) → plain_shown p ≡ nothing_shown decls → AreUnused p
-unused-all p decls none = record {
+-- a signal that is declared starts before its first write
+declared-new : (d : Decl) (m : Signal) → first.signal_start d ≡ Some m → m ≡ new_signal
+declared-new (decls_of.Signal name raw) m is = sym (same_Some new_signal m is)
+declared-new d m is = absurd (cc)
+
+begun : (x : Option (RecordedView Signal SignalOp SignalReply)) (d : Decl) → option_map signal_start x ≡ first.signal_start d → IsBegun x
+begun None d is = tt
+begun (Some signal) d is = declared-new d (signal_start signal) (sym is)
+
+begun-row : (objects : List (Option (RecordedView Signal SignalOp SignalReply))) (decls : List Decl) → starts_of signal_start objects ≡ map first.signal_start decls → All IsBegun objects
+begun-row [] decls same = All-nil IsBegun
+begun-row (x ∷ objects) [] same = let long = ap (λ (l : List (Option Signal)). length l) same in absurd (omega arith)
+begun-row (x ∷ objects) (d ∷ decls) same =
+    All-cons IsBegun x objects (begun x d (ap (λ (l : List (Option Signal)). get_or l 0 None) same))
+    (begun-row objects decls (ap (behind {A = Option Signal}) same))
+
+pub unused-all : (p : Plain) (s : Content) → plain_machines p ≡ machines_of s → plain_shown p ≡ nothing_shown s.decls → AreUnused p
+unused-all p s machines none = let decls = s.decls in record {
   work = ap (λ (x : Shown). x.work) none;
   clock = ap (λ (x : Shown). x.clock) none;
   table = ap (λ (x : Shown). x.table) none;
   sems = unused-row sem_history p.sems.items decls (ap (λ (x : Shown). x.sems) none);
   msgqs = unused-row msgq_history p.msgqs.items decls (ap (λ (x : Shown). x.msgqs) none);
-  signals = unused-row signal_history p.signals.items decls (ap (λ (x : Shown). x.signals) none);
+  signals = begun-row p.signals.items decls (ap (λ (m : Machines). m.signals.starts) machines);
   chans = unused-row chan_history p.chans.items decls (ap (λ (x : Shown). x.chans) none);
   observers = unused-row obs_history p.observers.items decls (ap (λ (x : Shown). x.observers) none);
 }
@@ -175,7 +202,7 @@ undealt-taken c ws w old p new left taken = record {
   table = (left-taken (IsLegal table_machine) objects_start ws w (Some c.table) old.table p.table new.table left.table taken.table).0;
   sems = (all-left-taken (IsLegal sem_machine) sem_start ws w c.sems.items old.sems.items p.sems.items new.sems.items left.sems taken.sems).0;
   msgqs = (all-left-taken (IsLegal msgq_machine) msgq_start ws w c.msgqs.items old.msgqs.items p.msgqs.items new.msgqs.items left.msgqs taken.msgqs).0;
-  signals = (all-left-taken (IsLegal signal_machine) signal_start ws w c.signals.items old.signals.items p.signals.items new.signals.items left.signals taken.signals).0;
+  signals = (all-sig-left-taken ws w c.signals.items old.signals.items p.signals.items new.signals.items left.signals taken.signals).0;
   chans = (all-left-taken (IsLegal chan_machine) chan_start ws w c.chans.items old.chans.items p.chans.items new.chans.items left.chans taken.chans).0;
   observers = (all-left-taken (IsLegal obs_machine) obs_start ws w c.observers.items old.observers.items p.observers.items new.observers.items left.observers taken.observers).0;
 }
@@ -189,9 +216,12 @@ new-taken c ws w old p new left taken = record {
   table = (left-taken (IsLegal table_machine) objects_start ws w (Some c.table) old.table p.table new.table left.table taken.table).1;
   sems = (all-left-taken (IsLegal sem_machine) sem_start ws w c.sems.items old.sems.items p.sems.items new.sems.items left.sems taken.sems).1;
   msgqs = (all-left-taken (IsLegal msgq_machine) msgq_start ws w c.msgqs.items old.msgqs.items p.msgqs.items new.msgqs.items left.msgqs taken.msgqs).1;
-  signals = (all-left-taken (IsLegal signal_machine) signal_start ws w c.signals.items old.signals.items p.signals.items new.signals.items left.signals taken.signals).1;
+  signals = (all-sig-left-taken ws w c.signals.items old.signals.items p.signals.items new.signals.items left.signals taken.signals).1;
   chans = (all-left-taken (IsLegal chan_machine) chan_start ws w c.chans.items old.chans.items p.chans.items new.chans.items left.chans taken.chans).1;
   observers = (all-left-taken (IsLegal obs_machine) obs_start ws w c.observers.items old.observers.items p.observers.items new.observers.items left.observers taken.observers).1;
+  looked = taken.looked;
+  notes = taken.notes;
+  capacity = taken.capacity;
 }
 
 -- one caller more, before those of the players behind its player
@@ -221,17 +251,37 @@ one-placed left all made x callers more split added was =
     ∙ sym (append_assoc left (place_of x ∷ []) (map place_of (reverse callers)))
     ∙ ap (λ (l : List PlayerPlace). l ++ map place_of (reverse callers)) (sym split) ∙ was
 
+-- nothing is noted
+none-noted : (w : Who) (notes : List Note) (hs : List (List Write)) → notes ≡ [] → AreNoted w notes hs
+none-noted w notes hs none = subst (λ (ns : List Note). AreNoted w ns hs) (sym none) (
+    let W : Note → Type 0 = λ n. n.entry.who ≡ w in
+    let S : Note → Type 0 = IsShownIn hs in
+    record { own = All-nil W; rise = tt; shown = All-nil S })
+
+-- each item of a valid scenario has a word
+few-words : (c : Cells) (s : Content) → IsValid s → cells_machines c ≡ machines_of s →
+    (work_start (given_to c.work)).items ≤ most_items
+few-words c s valid machines =
+    let same : (work_start (given_to c.work)).items ≡ length (places is_item s.decls) =
+    ap (λ (m : Machines). m.work_start.items) machines in
+    omega (arith, same, few-items s valid)
+
 -- new passes serve their player
-served-new : (c : Cells) (w : Who) (p : Passes) → AreNew c w p → IsServed c p w
-served-new c w p new = record {
-  work = at-new (IsLegal work_machine) work_start w c.work p.work new.work;
-  clock = at-new (IsLegal clock_machine) clock_start w c.clock p.clock new.clock;
-  table = at-new (IsLegal table_machine) objects_start w c.table p.table new.table;
+served-new : (c : Cells) (w : Who) (p : Passes) → w.number < 2 ^ 32 → (work_start (given_to c.work)).items ≤ most_items →
+    AreNew c w p → IsServed c p w
+served-new c w p few words new = record {
+  work = at-new (IsLegal work_machine) work_start w c.work p.looked p.work new.work;
+  clock = at-new (IsLegal clock_machine) clock_start w c.clock 0 p.clock new.clock;
+  table = at-new (IsLegal table_machine) objects_start w c.table 0 p.table new.table;
   sems = seats-new (IsLegal sem_machine) sem_start w c.sems.items p.sems.items new.sems;
   msgqs = seats-new (IsLegal msgq_machine) msgq_start w c.msgqs.items p.msgqs.items new.msgqs;
-  signals = seats-new (IsLegal signal_machine) signal_start w c.signals.items p.signals.items new.signals;
+  signals = subst (λ (ns : List Note). HaveOwn w (writes_at ns) c.signals.items p.signals.items) (sym new.notes) (own-new w c.signals.items p.signals.items new.signals);
   chans = seats-new (IsLegal chan_machine) chan_start w c.chans.items p.chans.items new.chans;
   observers = seats-new (IsLegal obs_machine) obs_start w c.observers.items p.observers.items new.observers;
+  noted = none-noted w p.notes.items (signals_by (writes_at p.notes.items) p.signals.items) new.notes;
+  capacity = new.capacity;
+  number = few;
+  items = words;
 }
 
 -- lists that are as long have as many empty histories
@@ -250,9 +300,16 @@ none-shown {S} {O} {R} {T} start cs f decls same =
     let long = ap (λ (l : List (Option T)). length l) same in
     none-each cs decls (omega (arith, length-map cs (option_map (λ (c : Cell S O R T). start (given_to c))), length-map decls f))
 
+-- so it is of signals
+none-seen : {E : Type 0} (ss : List (Option SharedSignal)) (decls : List Decl) → map (option_map (λ (s : SharedSignal). new_signal)) ss ≡ map first.signal_start decls →
+    ◌≡◌ {A = List (List E)} (map (λ s. []) ss) (map (λ d. []) decls)
+none-seen {E} ss decls same =
+    let long = ap (λ (l : List (Option Signal)). length l) same in
+    none-each ss decls (omega (arith, length-map ss (option_map (λ (s : SharedSignal). new_signal)), length-map decls first.signal_start))
+
 -- they have seen nothing
 shown-new : (c : Cells) (s : Content) (w : Who) (p : Passes) → cells_machines c ≡ machines_of s → AreNew c w p →
-    desk_shown p ≡ nothing_shown s.decls
+    desk_shown p ≡ nothing_seen s.decls
 shown-new c s w p machines new = λ i. record {
   work = seen-new (IsLegal work_machine) work_start w c.work p.work new.work i;
   clock = seen-new (IsLegal clock_machine) clock_start w c.clock p.clock new.clock i;
@@ -261,14 +318,16 @@ shown-new c s w p machines new = λ i. record {
       ∙ none-shown sem_start c.sems.items first.sem_start s.decls (ap (λ (m : Machines). m.sems.starts) machines)) i;
   msgqs = (all-seen-new (IsLegal msgq_machine) msgq_start w c.msgqs.items p.msgqs.items new.msgqs
       ∙ none-shown msgq_start c.msgqs.items first.msgq_start s.decls (ap (λ (m : Machines). m.msgqs.starts) machines)) i;
-  signals = (all-seen-new (IsLegal signal_machine) signal_start w c.signals.items p.signals.items new.signals
-      ∙ none-shown signal_start c.signals.items first.signal_start s.decls (ap (λ (m : Machines). m.signals.starts) machines)) i;
+  signals = (ap (λ (ns : List Note). signals_by (writes_at ns) p.signals.items) new.notes
+      ∙ shown-none w c.signals.items p.signals.items new.signals
+      ∙ none-seen c.signals.items s.decls (ap (λ (m : Machines). m.signals.starts) machines)) i;
   chans = (all-seen-new (IsLegal chan_machine) chan_start w c.chans.items p.chans.items new.chans
       ∙ none-shown chan_start c.chans.items first.chan_start s.decls (ap (λ (m : Machines). m.chans.starts) machines)) i;
   observers = (all-seen-new (IsLegal obs_machine) obs_start w c.observers.items p.observers.items new.observers
       ∙ none-shown obs_start c.observers.items first.observer_start s.decls (ap (λ (m : Machines). m.observers.starts) machines)) i;
-  looks = None;
-  looked = None;
+  looks = Some ((looks-none w c.signals.items p.signals.items new.signals
+      ∙ none-seen c.signals.items s.decls (ap (λ (m : Machines). m.signals.starts) machines)) i);
+  looked = Some (new.looked i);
 }
 
 none-capped : (n : ℕ) → n ≡ 0 → capped n ≡ 0
@@ -283,27 +342,25 @@ idle-all c w p (steps.Sem object op) new =
     none-capped (holds_in p.sems.items object) (all-idle-new (IsLegal sem_machine) sem_start w c.sems.items p.sems.items object new.sems)
 idle-all c w p (steps.Msgq object op) new =
     none-capped (holds_in p.msgqs.items object) (all-idle-new (IsLegal msgq_machine) msgq_start w c.msgqs.items p.msgqs.items object new.msgqs)
-idle-all c w p (steps.Signal object op) new =
-    none-capped (holds_in p.signals.items object) (all-idle-new (IsLegal signal_machine) signal_start w c.signals.items p.signals.items object new.signals)
+idle-all c w p (steps.Signal object op) new = none-capped (looks_in p.signals.items object) (idle-none w c.signals.items p.signals.items object new.signals)
 idle-all c w p (steps.Chan object op) new =
     none-capped (holds_in p.chans.items object) (all-idle-new (IsLegal chan_machine) chan_start w c.chans.items p.chans.items object new.chans)
 idle-all c w p (steps.Obs object op) new =
     none-capped (holds_in p.observers.items object) (all-idle-new (IsLegal obs_machine) obs_start w c.observers.items p.observers.items object new.observers)
 idle-all c w p (steps.LookItem object) new = none-capped (holds_at p.work) (idle-new (IsLegal work_machine) work_start w c.work p.work new.work)
-idle-all c w p (steps.LookSignal object must) new =
-    none-capped (holds_in p.signals.items object) (all-idle-new (IsLegal signal_machine) signal_start w c.signals.items p.signals.items object new.signals)
+idle-all c w p (steps.LookSignal object must) new = none-capped (looks_in p.signals.items object) (idle-none w c.signals.items p.signals.items object new.signals)
 
 -- a player that starts, with new passes, may play
-at-desk : (c : Cells) (s : Content) (number : ℕ) (at : PlayerPlace) (o : Option Passes) →
-    cells_machines c ≡ machines_of s → start_at s number ≡ Some at → HasNew c at.who o → IsAtDesk c s at o
-at-desk c s number at None machines is new = absurd new
-at-desk c s number at (Some p) machines is new = record {
-  served = served-new c at.who p new;
-  sound = player-first s number (desk_shown p) at (shown-new c s at.who p machines new) is;
+at-desk : (c : Cells) (s : Content) (number : ℕ) (at : PlayerPlace) (o : Option Passes) → IsValid s →
+    cells_machines c ≡ machines_of s → at.who.number < 2 ^ 32 → start_at s number ≡ Some at → HasNew c at.who o → IsAtDesk c s at o
+at-desk c s number at None valid machines few is new = absurd new
+at-desk c s number at (Some p) valid machines few is new = record {
+  served = served-new c at.who p few (few-words c s valid machines) new;
+  sound = player-seen s number (desk_shown p) at (shown-new c s at.who p machines new) is;
 }
 
 shown-by : (c : Cells) (s : Content) (w : Who) (o : Option Passes) → cells_machines c ≡ machines_of s → HasNew c w o →
-    shown_by o ≡ nothing_shown s.decls
+    shown_by o ≡ nothing_seen s.decls
 shown-by c s w None machines new = absurd new
 shown-by c s w (Some p) machines new = shown-new c s w p machines new
 
@@ -323,10 +380,10 @@ made-for s at ws c p valid are opened same whole some = record {
 }
 
 -- callers whose players start, with new passes, are all the new callers of their kernel
-pub callers-new : (k : Shared) (n : ℕ) (callers : List Caller) → cells_machines k.cells ≡ machines_of k.scenario →
+pub callers-new : (k : Shared) (n : ℕ) (callers : List Caller) → IsValid k.scenario → cells_machines k.cells ≡ machines_of k.scenario →
     n ≡ length (players k.scenario.decls) → map place_of callers ≡ starts k.scenario n →
     All (IsUnplayed k.cells) callers → AreNewCallers k callers
-callers-new k n callers machines many items unplayed = record {
+callers-new k n callers valid machines many items unplayed = record {
   all = record {
     own = λ p d within. own p (get_or callers p d) (slice_get-get_or callers p d within);
     all =
@@ -352,5 +409,17 @@ callers-new k n callers machines many items unplayed = record {
   dealt p c is = subst (IsUnplayed k.cells) (get_or_from_slice_get callers p c c is)
       (All-get_or (IsUnplayed k.cells) callers p c (slice_get_within callers p c is) unplayed)
 
+  -- numbers are below the number of players, and they are few
+  few : (p : ℕ) (c : Caller) → slice_get callers p ≡ Some c → (place_of c).who.number < 2 ^ 32
+  few p c is =
+      let number = numbers-starts k.scenario n (omega arith) p (place_of c) (there p c is) in
+      let within = slice_get_within callers p c is in
+      let long = ap (λ (l : List PlayerPlace). length l) items in
+      let as_many = length-map callers place_of in
+      let all = length-starts k.scenario n (omega arith) in
+      let known = length-players k.scenario.decls in
+      let most = valid.players in
+      omega arith
+
   own : (p : ℕ) (c : Caller) → slice_get callers p ≡ Some c → IsCaller k c
-  own p c is = at-desk k.cells k.scenario p (place_of c) c.passes machines (start p c is) (dealt p c is).passes
+  own p c is = at-desk k.cells k.scenario p (place_of c) c.passes valid machines (few p c is) (start p c is) (dealt p c is).passes

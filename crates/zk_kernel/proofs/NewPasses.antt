@@ -1,82 +1,80 @@
 -- New passes, dealt one after another from the end of each list.
 use Rattle.std.proofs.Common.{◌≡◌, ℕ, zero, suc, ◌+◌, ◌-◌, ◌<◌, Option, Some, None, List, [], ◌∷◌, ◌++◌, length, take, map, option_map, get_or, set, refl, sym, ap, subst, ◌∙◌, arith}
-use Rattle.std.specs.Prelude.{Vec, vec_len, MatchOption, option_to_list, slice_get}
+use Rattle.std.specs.Prelude.{Vec, vec_len, MatchOption, option_to_list}
 use Rattle.std.specs.declared.alloc.Global.{Global}
-use Rattle.std.specs.Option.{option_map_or}
 use Rattle.std.proofs.lemmas.List.{length-append, map-append}
 use Rattle.std.proofs.lemmas.Slice.Zip.{all_zipped_more}
 use Rattle.zk_base.specs.declared.ids.Who.{Who}
 use Rattle.zk_base.specs.declared.ids.Entry.{Entry}
 use Rattle.zk_turn.specs.declared.pass.Pass.{Pass}
 use Rattle.zk_turn.specs.declared.cell.Cell.{Cell}
-use Rattle.zk_turn.specs.Players.{room_of_a_pass}
-use Rattle.zk_turn.specs.Passes.{given_to, IsNewPass, AreNewPasses, pass_mine, pass_room}
+use Rattle.zk_turn.specs.Passes.{given_to, IsNewPass, AreNewPasses}
 use Rattle.zk_turn.proofs.Dealing.{AreNewPasses-some, AreNewPasses-pop}
 use Rattle.zk_kernel.specs.Seats.{IsOwn, IsAt, seen_at, holds_at}
 use Rattle.zk_kernel.specs.Rows.{starts_in, AreSeats, seen_all, holds_in}
 use Rattle.zk_kernel.specs.Dealt.{AreLeft, AllLeft, IsTaken, AllTaken, IsNewAt, IsNewIn, AllNew}
 
-module _ {S O R T : Type 0} where
+module _ {P : Type 0} where
   -- what a list's last pass is, and what is left of the list
-  pub taken-popped : (old new : Vec (Pass S O R T) Global) (p : Option (Pass S O R T)) →
+  pub taken-popped : (old new : Vec P Global) (p : Option P) →
       old.items ≡ new.items ++ option_to_list p → new.items ≡ take (vec_len old - 1) old.items →
       MatchOption p ((vec_len old ≡ 0) × (vec_len new ≡ 0)) (λ x. vec_len new + 1 ≡ vec_len old) → IsTaken old p new
   taken-popped old new None items rest cases =
       let none : new.items ≡ [] = rest ∙ ap (λ (n : ℕ). take (n - 1) old.items) cases.0 in
-      (items ∙ ap (λ (l : List (Pass S O R T)). l ++ []) none, none)
+      (items ∙ ap (λ (l : List P). l ++ []) none, none)
   taken-popped old new (Some p) items rest cases = items
 
   -- out of so many lists, from the first, the last pass was taken, and the others are as they were
-  abbrev pub TakenSoFar : ℕ → List (Vec (Pass S O R T) Global) → List (Option (Pass S O R T)) →
-      List (Vec (Pass S O R T) Global) → Type 0
+  abbrev pub TakenSoFar : ℕ → List (Vec P Global) → List (Option P) →
+      List (Vec P Global) → Type 0
   TakenSoFar zero olds ps news = (ps ≡ []) × (news ≡ olds)
   TakenSoFar (suc n) (o ∷ olds) (p ∷ ps) (x ∷ news) = IsTaken o p x × TakenSoFar n olds ps news
   TakenSoFar (suc n) olds ps news = ⊥
 
   -- as many
-  pub so-long : (n : ℕ) (olds : List (Vec (Pass S O R T) Global)) (ps : List (Option (Pass S O R T)))
-      (news : List (Vec (Pass S O R T) Global)) → TakenSoFar n olds ps news → length news ≡ length olds
-  so-long zero olds ps news half = ap (λ (l : List (Vec (Pass S O R T) Global)). length l) half.1
+  pub so-long : (n : ℕ) (olds : List (Vec P Global)) (ps : List (Option P))
+      (news : List (Vec P Global)) → TakenSoFar n olds ps news → length news ≡ length olds
+  so-long zero olds ps news half = ap (λ (l : List (Vec P Global)). length l) half.1
   so-long (suc n) [] ps news half = absurd half
   so-long (suc n) (o ∷ olds) [] news half = absurd half
   so-long (suc n) (o ∷ olds) (p ∷ ps) [] half = absurd half
   so-long (suc n) (o ∷ olds) (p ∷ ps) (x ∷ news) half = ap suc (so-long n olds ps news half.1)
 
-  abbrev but_first_list : List (Vec (Pass S O R T) Global) → List (Vec (Pass S O R T) Global)
+  abbrev but_first_list : List (Vec P Global) → List (Vec P Global)
   but_first_list [] = []
   but_first_list (x ∷ xs) = xs
 
   -- out of one more
-  pub one-taken : (n : ℕ) (olds : List (Vec (Pass S O R T) Global)) (ps : List (Option (Pass S O R T)))
-      (news : List (Vec (Pass S O R T) Global)) (o : Vec (Pass S O R T) Global) (p : Option (Pass S O R T))
-      (x : Vec (Pass S O R T) Global) → TakenSoFar n olds ps news → n < length olds → o ≡ get_or news n o →
+  pub one-taken : (n : ℕ) (olds : List (Vec P Global)) (ps : List (Option P))
+      (news : List (Vec P Global)) (o : Vec P Global) (p : Option P)
+      (x : Vec P Global) → TakenSoFar n olds ps news → n < length olds → o ≡ get_or news n o →
       IsTaken o p x → TakenSoFar (n + 1) olds (ps ++ p ∷ []) (set news n x)
   one-taken n olds ps news o p x half within is taken =
       let next : suc n ≡ n + 1 = omega arith in
       subst (λ (k : ℕ). TakenSoFar k olds (ps ++ p ∷ []) (set news n x)) next (from n olds ps news half within is)
     where
-      from : (n : ℕ) (olds : List (Vec (Pass S O R T) Global)) (ps : List (Option (Pass S O R T)))
-          (news : List (Vec (Pass S O R T) Global)) → TakenSoFar n olds ps news → n < length olds →
+      from : (n : ℕ) (olds : List (Vec P Global)) (ps : List (Option P))
+          (news : List (Vec P Global)) → TakenSoFar n olds ps news → n < length olds →
           o ≡ get_or news n o → TakenSoFar (suc n) olds (ps ++ p ∷ []) (set news n x)
       from n [] ps news half within is = absurd (omega arith)
       from zero (d ∷ olds) [] [] half within is =
-          let l = ap (λ (l : List (Vec (Pass S O R T) Global)). length l) half.1 in absurd (omega arith)
+          let l = ap (λ (l : List (Vec P Global)). length l) half.1 in absurd (omega arith)
       from zero (d ∷ olds) [] (y ∷ news) half within is =
-          let same : o ≡ d = is ∙ ap (λ (l : List (Vec (Pass S O R T) Global)). get_or l 0 o) half.1 in
-          (subst (λ (k : Vec (Pass S O R T) Global). IsTaken k p x) same taken, (refl, ap but_first_list half.1))
+          let same : o ≡ d = is ∙ ap (λ (l : List (Vec P Global)). get_or l 0 o) half.1 in
+          (subst (λ (k : Vec P Global). IsTaken k p x) same taken, (refl, ap but_first_list half.1))
       from zero (d ∷ olds) (q ∷ ps) news half within is =
-          let l = ap (λ (l : List (Option (Pass S O R T))). length l) half.0 in absurd (omega arith)
+          let l = ap (λ (l : List (Option P)). length l) half.0 in absurd (omega arith)
       from (suc n) (d ∷ olds) [] news half within is = absurd half
       from (suc n) (d ∷ olds) (q ∷ ps) [] half within is = absurd half
       from (suc n) (d ∷ olds) (q ∷ ps) (y ∷ news) half within is =
           (half.0, from n olds ps news half.1 (omega arith) is)
 
   -- out of all
-  pub all-taken : (n : ℕ) (olds : List (Vec (Pass S O R T) Global)) (ps : List (Option (Pass S O R T)))
-      (news : List (Vec (Pass S O R T) Global)) → TakenSoFar n olds ps news → n ≡ length olds → AllTaken olds ps news
+  pub all-taken : (n : ℕ) (olds : List (Vec P Global)) (ps : List (Option P))
+      (news : List (Vec P Global)) → TakenSoFar n olds ps news → n ≡ length olds → AllTaken olds ps news
   all-taken zero [] ps news half many =
-      subst (λ (l : List (Vec (Pass S O R T) Global)). AllTaken [] ps l) (sym half.1)
-      (subst (λ (l : List (Option (Pass S O R T))). AllTaken [] l []) (sym half.0) tt)
+      subst (λ (l : List (Vec P Global)). AllTaken [] ps l) (sym half.1)
+      (subst (λ (l : List (Option P)). AllTaken [] l []) (sym half.0) tt)
   all-taken zero (o ∷ olds) ps news half many = absurd (omega arith)
   all-taken (suc n) [] ps news half many = absurd half
   all-taken (suc n) (o ∷ olds) [] news half many = absurd half
@@ -134,14 +132,20 @@ module _ {S O R T : Type 0} (legal : T → List (Entry O R) → Type 0) (start :
       let rest = all-left-taken ws w cs olds ps news left.1 taken.1 in
       ((one.0, rest.0), (one.1, rest.1))
 
-  -- a new pass is its player's own
-  pub own-new : (w : Who) (c : Cell S O R T) (p : Pass S O R T) → IsNewPass legal start c w p → IsOwn legal start c w p
-  own-new w c p new =
-      record { of_cell = new.of_cell; player = new.who; only = new.players; room = (let room = new.room in omega arith) }
+  -- a new pass is its player's own, and has room for every step, below whatever number its looks are
+  pub own-new : (w : Who) (c : Cell S O R T) (looked : ℕ) (p : Pass S O R T) → IsNewPass legal start c w p →
+      IsOwn legal start c w looked p
+  own-new w c looked p new = record {
+    of_cell = new.of_cell;
+    player = new.who;
+    only = new.players;
+    room = λ next above later. (let room = new.room in omega arith);
+  }
 
-  pub at-new : (w : Who) (c : Cell S O R T) (p : Option (Pass S O R T)) → IsNewAt legal start w c p → IsAt legal start c w p
-  at-new w c None new = absurd new
-  at-new w c (Some p) new = own-new w c p new
+  pub at-new : (w : Who) (c : Cell S O R T) (looked : ℕ) (p : Option (Pass S O R T)) → IsNewAt legal start w c p →
+      IsAt legal start c w looked p
+  at-new w c looked None new = absurd new
+  at-new w c looked (Some p) new = own-new w c looked p new
 
   pub seats-new : (w : Who) (cs : List (Option (Cell S O R T))) (ps : List (Option (Pass S O R T))) →
       AllNew legal start w cs ps → AreSeats legal start w cs ps
@@ -150,7 +154,7 @@ module _ {S O R T : Type 0} (legal : T → List (Entry O R) → Type 0) (start :
   seats-new w (c ∷ cs) [] new = absurd new
   seats-new w (None ∷ cs) (None ∷ ps) new = (tt, seats-new w cs ps new.1)
   seats-new w (None ∷ cs) (Some p ∷ ps) new = absurd new.0
-  seats-new w (Some c ∷ cs) (p ∷ ps) new = (at-new w c p new.0, seats-new w cs ps new.1)
+  seats-new w (Some c ∷ cs) (p ∷ ps) new = (at-new w c 0 p new.0, seats-new w cs ps new.1)
 
   -- it has seen nothing, and had no turn
   pub seen-new : (w : Who) (c : Cell S O R T) (p : Option (Pass S O R T)) → IsNewAt legal start w c p → seen_at p ≡ []

@@ -1,5 +1,5 @@
 -- What a step does to its call: the call is behind its beginning, or it is answered under its own word.
-use Rattle.std.proofs.Common.{◌≡◌, ℕ, Bool, true, false, cond, Some, None, List, refl}
+use Rattle.std.proofs.Common.{◌≡◌, ℕ, Bool, true, false, cond, List, refl}
 use Rattle.std.specs.List.{list_any}
 use Rattle.zk_base.specs.declared.errors.Errno.TheVariants.{Again}
 use Rattle.zk_worker.specs.declared.answers.Answer.TheVariants as answers

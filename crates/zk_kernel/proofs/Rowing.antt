@@ -1,12 +1,12 @@
 -- The cells of one kind, and the passes of them, one of which is used.
-use Rattle.std.proofs.Common.{◌≡◌, ◌≢◌, ℕ, zero, suc, ◌+◌, ◌<◌, true, Some, None, Ok, Err, is_some, Option, Result, List, [], ◌∷◌, ◌++◌, length, set, get_or, refl, sym, ap, subst, ◌∙◌, arith}
+use Rattle.std.proofs.Common.{◌≡◌, ◌≢◌, ℕ, zero, suc, ◌<◌, true, Some, None, Ok, Err, is_some, Option, Result, List, [], ◌∷◌, ◌++◌, length, set, get_or, refl, sym, ap, subst, ◌∙◌, arith}
 use Rattle.std.specs.List.{slice_get}
 use Rattle.std.specs.Option.{option_map}
 use Rattle.std.proofs.lemmas.Option.{slice_get_read}
 use Rattle.zk_base.specs.declared.ids.Who.{Who}
 use Rattle.zk_base.specs.declared.ids.Entry.{Entry}
 use Rattle.zk_base.specs.declared.errors.NoMemory.{NoMemory}
-use Rattle.zk_base.specs.Legal.{Machine, state_after}
+use Rattle.zk_base.specs.Legal.{Machine}
 use Rattle.zk_base.specs.History.{entry}
 use Rattle.zk_turn.specs.declared.pass.Pass.{Pass}
 use Rattle.zk_turn.specs.declared.cell.Cell.{Cell}
@@ -15,8 +15,8 @@ use Rattle.zk_worker.specs.declared.steps.StepReply.{StepReply}
 use Rattle.zk_worker.specs.Single.{answer_in, OthersGrew}
 use Rattle.zk_worker.specs.Families.{with_entry, start_of, answer_at, takes_at, EachGrew}
 use Rattle.zk_worker.proofs.Between.{grew-none, grew-none_each}
-use Rattle.zk_kernel.specs.Seats.{IsEntered, Visited, seen_at, holds_at}
-use Rattle.zk_kernel.specs.Rows.{family, seen_all, holds_in, IsSeat, AreSeats, takes_in, IsEnteredAt, VisitedAt}
+use Rattle.zk_kernel.specs.Seats.{Visited, seen_at, holds_at}
+use Rattle.zk_kernel.specs.Rows.{family, seen_all, holds_in, IsSeat, AreSeats, takes_in, VisitedAt}
 
 module _ {S O R T : Type 0} (m : Machine T O R) (start : S → T) where
   -- an object that takes an operation has a cell

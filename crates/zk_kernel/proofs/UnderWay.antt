@@ -8,7 +8,6 @@ use Rattle.std.specs.List.{slice_get}
 use Rattle.std.proofs.lemmas.List.Elements.{All-nil, All-cons, All-weaker}
 use Rattle.zk_line.specs.declared.types.Call.{Call}
 use Rattle.zk_scenario.specs.Content.{Content}
-use Rattle.zk_scenario.specs.Players.{calls_of}
 use Rattle.zk_worker.specs.declared.answers.Answer.{Answer}
 use Rattle.zk_worker.specs.declared.frames.Frame.{Frame}
 use Rattle.zk_worker.specs.declared.frames.Role.{Role}
@@ -20,13 +19,11 @@ use Rattle.zk_worker.specs.Follows.{is_dead, is_through, is_spent_at}
 use Rattle.zk_worker.specs.Machines.{machines_of}
 use Rattle.zk_worker.specs.Places.{PlayerPlace}
 use Rattle.zk_worker.specs.Playing.{HasStepped, HasWaited, HasStopped}
-use Rattle.zk_worker.specs.Protocol.{after}
-use Rattle.zk_worker.specs.Ranges.{is_start}
-use Rattle.zk_worker.specs.Shown.{Shown, OnlyOthersCame}
-use Rattle.zk_kernel.specs.Calling.{Moment, IsNext, CameBy, IsCalled, IsLeft, IsSpent, is_answered, is_checking}
+use Rattle.zk_worker.specs.Shown.{OnlyOthersCame}
+use Rattle.zk_kernel.specs.Calling.{Moment, IsCalled, IsLeft, IsSpent, is_answered, is_checking}
 use Rattle.zk_kernel.specs.Kernels.{Shared}
 use Rattle.zk_worker.specs.Next.{role_call, top_call, next_call}
-use Rattle.zk_kernel.specs.Within.{IsCallOf, IsWithin, IsCheckedOrSame, IsUnderWay, answer_since}
+use Rattle.zk_kernel.specs.Within.{IsCallOf, IsCheckedOrSame, IsUnderWay, answer_since}
 use Rattle.zk_kernel.proofs.Within.{Stays, Ends, none-came, within-steps}
 
 -- a player that makes a call next stands at its beginning

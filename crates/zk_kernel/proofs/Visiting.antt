@@ -1,16 +1,21 @@
 -- One attempt with a pass that stands for one player.
-use Rattle.std.proofs.Common.{◌≡◌, ◌≢◌, ◌⊎◌, inl, inr, ℕ, suc, ◌+◌, ◌*◌, ◌<◌, ◌≤◌, Bool, true, false, ◌||◌, Some, None, List, [], ◌∷◌, ◌++◌, length, All, refl, sym, ap, subst, ◌∙◌, arith, eqb, eq-eqb, cond}
-use Rattle.std.specs.List.{filter}
+use Rattle.std.proofs.Common.{◌≡◌, ◌≢◌, ℕ, ◌+◌, ◌<◌, ◌≤◌, true, false, ◌||◌, Some, None, List, [], ◌∷◌, ◌++◌, length, refl, sym, ap, subst, ◌∙◌, arith, eq-eqb}
 use Rattle.std.proofs.lemmas.Bool.{eq-eqb, ne_eqb}
-use Rattle.std.proofs.lemmas.List.Elements.{All-nil, All-cons, All-head, All-tail, All-append, All-weaker}
+use Rattle.std.proofs.lemmas.List.Elements.{All-head, All-append, All-weaker}
 use native.Mathlib.Decide.{ℕ_discrete}
 use Rattle.zk_base.specs.declared.ids.Who.{Who}
 use Rattle.zk_base.specs.declared.ids.Entry.{Entry}
-use Rattle.zk_base.specs.History.{entry, IsAbove, Rises, extended}
-use Rattle.zk_base.specs.Legal.{Machine, IsLegal, state_after}
-use Rattle.zk_turn.specs.Players.{is_by, own, has, GoesOn, room_of_a_pass}
+use Rattle.zk_base.specs.History.{entry, IsAbove}
+use Rattle.zk_base.specs.Legal.{Machine, state_after}
+use Rattle.zk_base.proofs.Lists.{All-front, All-back}
+use Rattle.zk_turn.specs.declared.cell.Cell.{Cell}
+use Rattle.zk_turn.specs.declared.held.Held.{Held}
+use Rattle.zk_turn.specs.declared.pass.Pass.{Pass}
+use Rattle.zk_turn.specs.declared.views.View.{View}
+use Rattle.zk_turn.specs.Passes.{IsPassOf, IsSameTurn, pass_players, pass_who, pass_seen, pass_room, held_players}
+use Rattle.zk_turn.specs.Players.{is_by, GoesOn, room_of_a_pass}
 use Rattle.zk_worker.specs.Single.{OthersGrew}
-use Rattle.zk_kernel.specs.Seats.{IsEntered}
+use Rattle.zk_kernel.specs.Seats.{IsEntered, IsOwn}
 
 module _ {O R : Type 0} where
   -- an entry is this player's, or it is another's
@@ -40,46 +45,62 @@ module _ {O R : Type 0} where
       let later = All-weaker P Q (λ e others same. absurd (not_by w e others same)) goes.later goes.others in
       subst (λ (l : List (Entry O R)). IsAbove l w.number step) (sym goes.longer) (All-append Q seen goes.later above later)
 
-  -- a player has at most as many entries as steps so far
-  few_from : (w : Who) (h : List (Entry O R)) (low step : ℕ) → low ≤ step → Rises h → All (λ e. e.who.number ≡ w.number → low ≤ e.step) h → IsAbove h w.number step → length (own (w ∷ []) h) + low ≤ step
-  few_from w [] low step le rises lows above = omega arith
-  few_from w (e ∷ es) low step le rises lows above =
-      let L : Entry O R → Type 0 = λ f. f.who.number ≡ w.number → low ≤ f.step in
-      let Q : Entry O R → Type 0 = λ f. f.who.number ≡ w.number → f.step < step in
-      let under = All-tail Q e es above in
-      here (is_by (w ∷ []) e) refl (All-head L e es lows) (All-head Q e es above)
-      (few_from w es low step le rises.1 (All-tail L e es lows) under)
-      (λ le' lows'. few_from w es (e.step + 1) step le' rises.1 lows' under)
-    where
-      here : (b : Bool) → is_by (w ∷ []) e ≡ b → (e.who.number ≡ w.number → low ≤ e.step) → (e.who.number ≡ w.number → e.step < step) →
-          length (own (w ∷ []) es) + low ≤ step →
-          (e.step + 1 ≤ step → All (λ f. f.who.number ≡ w.number → e.step + 1 ≤ f.step) es → length (own (w ∷ []) es) + (e.step + 1) ≤ step) →
-          length (cond b (e ∷ own (w ∷ []) es) (own (w ∷ []) es)) + low ≤ step
-      here true is first under rest rest' =
-          let same = by_is w e is in
-          let P : Entry O R → Type 0 = λ f. f.who.number ≡ e.who.number → e.step < f.step in
-          let L' : Entry O R → Type 0 = λ f. f.who.number ≡ w.number → e.step + 1 ≤ f.step in
-          let high : (f : Entry O R) → P f → L' f = λ f more mine. let m = more (mine ∙ sym same) in omega arith in
-          let u = under same in
-          let l = first same in
-          let more = rest' (omega arith) (All-weaker P L' high es rises.0) in
-          omega arith
-      here false is first under rest rest' = rest
+  -- what was seen is below a step that all the history is below
+  above-before : (w : Who) (seen h : List (Entry O R)) (next : ℕ) → GoesOn (w ∷ []) seen h → IsAbove h w.number next → IsAbove seen w.number next
+  above-before w seen h next goes above =
+      let Q : Entry O R → Type 0 = λ e. e.who.number ≡ w.number → e.step < next in
+      All-front Q seen goes.later (subst (λ (l : List (Entry O R)). IsAbove l w.number next) goes.longer above)
 
-  pub few_own : (w : Who) (h : List (Entry O R)) (step : ℕ) → Rises h → IsAbove h w.number step → length (own (w ∷ []) h) ≤ step
-  few_own w h step rises above =
-      let P : Entry O R → Type 0 = λ f. 0 ≤ f.step in
-      let L : Entry O R → Type 0 = λ f. f.who.number ≡ w.number → 0 ≤ f.step in
-      let all = few_from w h 0 step (omega arith) rises (anything h) above in omega arith
-    where
-      anything : (l : List (Entry O R)) → All (λ e. e.who.number ≡ w.number → 0 ≤ e.step) l
-      anything [] = let L : Entry O R → Type 0 = λ f. f.who.number ≡ w.number → 0 ≤ f.step in All-nil L
-      anything (x ∷ xs) = let L : Entry O R → Type 0 = λ f. f.who.number ≡ w.number → 0 ≤ f.step in All-cons L x xs (λ same. omega arith) (anything xs)
+  -- a player's own entry is below a step that all the history is below
+  entry-before : (w : Who) (h : List (Entry O R)) (step next : ℕ) (op : O) (reply : R) → IsAbove (h ++ entry w step op reply ∷ []) w.number next → step < next
+  entry-before w h step next op reply above =
+      let Q : Entry O R → Type 0 = λ e. e.who.number ≡ w.number → e.step < next in
+      All-head Q (entry w step op reply) [] (All-back Q h (entry w step op reply ∷ []) above) refl
 
-  pub room_left : (ws : List Who) (w : Who) (seen : List (Entry O R)) (step room : ℕ) → ws ≡ w ∷ [] → Rises seen → IsAbove seen w.number step → step < room_of_a_pass → room_of_a_pass ≤ room + length (own ws seen) → 0 < room
-  room_left ws w seen step room only rises above few most =
-      let n = few_own w seen step rises above in
-      let m = subst (λ (l : List Who). room_of_a_pass ≤ room + length (own l seen)) only most in omega arith
+module _ {S O R T : Type 0} where
+  -- one turn is of the players of the other
+  pub turn-players : (g h : Held S O R T) → IsSameTurn g h → held_players h ≡ held_players g
+  turn-players g h same = ap (λ (v : View O R T). v.players) same.view
+
+-- a pass of one player that makes a step
+module _ {S O R T : Type 0} (legal : T → List (Entry O R) → Type 0) (start : S → T) (c : Cell S O R T) (who : Who) (looked step : ℕ) (p : Pass S O R T)
+    (was : IsOwn legal start c who looked p) (above : IsAbove (pass_seen p) who.number step) (low : looked ≤ step) where
+  -- it has room for it
+  pub room_left : step < room_of_a_pass → 0 < pass_room p
+  room_left most = let room = was.room step above low in omega arith
+
+  module _ (p' : Pass S O R T) (of_cell : IsPassOf legal start c p') (player : pass_who p' ≡ pass_who p) (only : pass_players p' ≡ pass_players p) where
+    -- entries of others take no room
+    pub own-still : (h : List (Entry O R)) → GoesOn (who ∷ []) (pass_seen p) h → pass_seen p' ≡ h → pass_room p' ≡ pass_room p → IsOwn legal start c who looked p'
+    own-still h goes is same = record {
+      of_cell = of_cell;
+      player = player ∙ was.player;
+      only = only ∙ was.only;
+      room = λ next over le.
+          let before = above-before who (pass_seen p) h next goes (subst (λ (l : List (Entry O R)). IsAbove l who.number next) is over) in
+          let room = was.room next before le in omega arith;
+    }
+
+    -- the step's entry takes the room of the step
+    pub own-entered : (h : List (Entry O R)) (op : O) (reply : R) (w : Who) → pass_seen p' ≡ h ++ entry w step op reply ∷ [] → w ≡ who → pass_room p' + 1 ≡ pass_room p → IsOwn legal start c who looked p'
+    own-entered h op reply w is same spent = record {
+      of_cell = of_cell;
+      player = player ∙ was.player;
+      only = only ∙ was.only;
+      room = λ next over le.
+          let made = is ∙ ap (λ (w : Who). h ++ entry w step op reply ∷ []) same in
+          let under = entry-before who h step next op reply (subst (λ (l : List (Entry O R)). IsAbove l who.number next) made over) in
+          let room = was.room step above low in omega arith;
+    }
+
+    -- and so does its look
+    pub own-looked : pass_room p' + 1 ≡ pass_room p → IsOwn legal start c who (step + 1) p'
+    own-looked spent = record {
+      of_cell = of_cell;
+      player = player ∙ was.player;
+      only = only ∙ was.only;
+      room = λ next over le. let room = was.room step above low in omega arith;
+    }
 
 module _ {O R T : Type 0} where
   pub entered : (m : Machine T O R) (start start' : T) (who who' : Who) (step : ℕ) (op : O) (reply : R) (place : ℕ) (old found new made : List (Entry O R)) →

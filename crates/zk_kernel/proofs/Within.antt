@@ -1,8 +1,8 @@
 -- A player within a call: the call's script stands at it still, below the scripts that it entered.
-use Rattle.std.proofs.Common.{◌≡◌, ◌⊎◌, inl, inr, ℕ, ◌+◌, ◌≤◌, ◌<◌, Bool, true, false, cond, ◌&&◌, ◌||◌, nat_lt, nat_le, Option, Some, None, is_some, List, [], ◌∷◌, ◌++◌, length, refl, sym, ap, subst, ◌∙◌, arith}
+use Rattle.std.proofs.Common.{◌≡◌, ◌⊎◌, inl, inr, ℕ, ◌+◌, Bool, true, false, cond, ◌&&◌, ◌||◌, nat_lt, nat_le, Option, Some, None, is_some, List, [], ◌∷◌, ◌++◌, length, refl, sym, ap, subst, ◌∙◌, arith}
 use Rattle.std.specs.Option.{option_map, option_and_then}
 use Rattle.std.specs.List.{slice_get}
-use Rattle.std.proofs.lemmas.Bool.{le-ltb, lt-ltb, lt-leb, le-leb, leb-true}
+use Rattle.std.proofs.lemmas.Bool.{le-ltb, lt-ltb, lt-leb, le-leb}
 use Rattle.std.proofs.lemmas.List.{length_push, length-append}
 use Rattle.std.proofs.lemmas.Option.{slice_get_within}
 use Rattle.zk_line.specs.declared.needs.Needed.{Needed}
@@ -37,7 +37,7 @@ use Rattle.zk_worker.specs.Follows.{is_dead}
 use Rattle.zk_worker.specs.Places.{PlayerPlace}
 use Rattle.zk_worker.specs.Protocol.{IsAhead, after, checked, moved, call_progress, role_progress, frames_progress, is_over, settled, entered, first_frame, frames_after, answers_after, spot_of}
 use Rattle.zk_worker.specs.Ranges.{is_start}
-use Rattle.zk_worker.proofs.CheckedSteps.{check_at, IsCheck, IsOwn, turn, check-of-top, check-starts}
+use Rattle.zk_worker.proofs.CheckedSteps.{check_at, turn, check-of-top, check-starts}
 use Rattle.zk_kernel.specs.Calling.{is_answered, is_checking}
 use Rattle.zk_kernel.specs.Within.{IsCallOf, IsWithin}
 use Rattle.zk_kernel.proofs.Progresses.{GoesOn, plan-on}

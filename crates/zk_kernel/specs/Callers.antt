@@ -1,5 +1,5 @@
 -- A player with its passes of a kernel.
-use Rattle.std.specs.Prelude.{◌≡◌, ℕ, Bool, ◌&&◌, not, Option, Some, None, Result, Ok, []}
+use Rattle.std.specs.Prelude.{Bool, ◌&&◌, not, Option, Some, None, Result, Ok, []}
 use Rattle.zk_base.specs.declared.errors.NoMemory.{NoMemory}
 use Rattle.zk_scenario.specs.Content.{Content}
 use Rattle.zk_worker.specs.Attempt.{Counts}

@@ -1,6 +1,5 @@
 -- A whole call of a caller, by steps of its player.
-use Rattle.std.specs.Prelude.{◌≡◌, ℕ, Bool, true, false, ◌&&◌, ◌||◌, nat_le, nat_lt, is_some, Option, Some, None, Result, Ok, Err, List, [], ◌∷◌, ◌++◌, length, All}
-use Rattle.zk_base.specs.declared.errors.NoMemory.{NoMemory}
+use Rattle.std.specs.Prelude.{◌≡◌, ℕ, Bool, true, false, ◌&&◌, ◌||◌, nat_le, nat_lt, is_some, Result, Ok, Err, List, [], ◌∷◌, ◌++◌, length, All}
 use Rattle.zk_line.specs.declared.types.Call.{Call}
 use Rattle.zk_line.specs.Calls.{word_of}
 use Rattle.zk_scenario.specs.Content.{Content}
@@ -17,7 +16,7 @@ use Rattle.zk_worker.specs.Shown.{Shown, OnlyOthersCame}
 use Rattle.zk_kernel.specs.declared.caller.Caller.{Caller}
 use Rattle.zk_kernel.specs.declared.stop.Stop.{Stop}
 use Rattle.zk_kernel.specs.declared.stop.Stop.TheVariants as stops
-use Rattle.zk_kernel.specs.Callers.{place_of, shown_to, counts_of, is_stopped}
+use Rattle.zk_kernel.specs.Callers.{place_of, shown_to, counts_of}
 use Rattle.zk_kernel.specs.Kernels.{Shared}
 
 -- a moment of a caller: where its player stands, what it has seen, and how many turns it had

@@ -1,13 +1,13 @@
 -- Passes that are put together.
-use Rattle.std.specs.Prelude.{◌≡◌, ℕ, Bool, true, false, length, Option, Some, None, List, [], ◌∷◌, ◌++◌, map, All}
+use Rattle.std.specs.Prelude.{◌≡◌, ℕ, suc, true, false, Option, Some, None, List, [], ◌∷◌, ◌++◌, map, All}
 use Rattle.std.specs.List.{AllZip}
 use Rattle.zk_base.specs.declared.ids.Who.{Who}
 use Rattle.zk_base.specs.declared.ids.Entry.{Entry}
+use Rattle.zk_base.specs.declared.seen.Seen.{Seen}
 use Rattle.zk_base.specs.Legal.{IsLegal}
 use Rattle.zk_model_wait.specs.Clock.{clock_machine}
 use Rattle.zk_model_wait.specs.Sem.{sem_machine}
 use Rattle.zk_model_wait.specs.Msgq.{msgq_machine}
-use Rattle.zk_model_wait.specs.Signal.{signal_machine}
 use Rattle.zk_model_bus.specs.Channel.{chan_machine}
 use Rattle.zk_model_bus.specs.Observer.{obs_machine}
 use Rattle.zk_model_bus.specs.Table.{table_machine}
@@ -15,7 +15,7 @@ use Rattle.zk_model_work.specs.Machine.{work_machine}
 use Rattle.zk_bus.specs.Seen.{chan_start}
 use Rattle.zk_msgq.specs.Seen.{msgq_start}
 use Rattle.zk_objects.specs.Seen.{objects_start}
-use Rattle.zk_poll.specs.Seen.{signal_start}
+use Rattle.zk_poll.specs.Seen.{left_by}
 use Rattle.zk_sem.specs.Seen.{sem_start}
 use Rattle.zk_subq.specs.Seen.{obs_start}
 use Rattle.zk_time.specs.ClockSeen.{clock_start}
@@ -24,17 +24,20 @@ use Rattle.zk_turn.specs.declared.pass.Pass.{Pass}
 use Rattle.zk_turn.specs.declared.cell.Cell.{Cell}
 use Rattle.zk_turn.specs.Players.{has, GoesOn}
 use Rattle.zk_turn.specs.Passes.{IsPassOf, pass_players}
-use Rattle.zk_scenario.specs.Content.{Content}
+use Rattle.zk_signal.specs.declared.pass.SigPass.{SigPass}
+use Rattle.zk_signal.specs.declared.signal.SharedSignal.{SharedSignal}
+use Rattle.zk_signal.specs.Passes as shared
 use Rattle.zk_worker.specs.Places.{PlayerPlace}
 use Rattle.zk_worker.specs.Shown.{Shown, OnlyOthersCame}
 use Rattle.zk_kernel.specs.declared.caller.Caller.{Caller}
-use Rattle.zk_kernel.specs.Callers.{place_of, shown_to, shown_by}
+use Rattle.zk_kernel.specs.declared.notes.Note.{Note}
+use Rattle.zk_kernel.specs.Callers.{place_of, shown_to}
 use Rattle.zk_kernel.specs.declared.cells.Cells.{Cells}
 use Rattle.zk_kernel.specs.declared.passes.Passes.{Passes}
-use Rattle.zk_world.specs.SoundPlayer.{IsSoundPlayer}
 use Rattle.zk_kernel.specs.Desks.{desk_shown}
-use Rattle.zk_kernel.specs.Seats.{seen_at}
-use Rattle.zk_kernel.specs.Rows.{seen_all}
+use Rattle.zk_kernel.specs.Lasting.{late}
+use Rattle.zk_kernel.specs.Notes.{writes_at}
+use Rattle.zk_kernel.specs.Signals.{looks_at_number}
 
 module _ {S O R T : Type 0} where
   -- it is a pass of this cell for these players
@@ -62,55 +65,101 @@ module _ {O R : Type 0} where
   abbrev pub EachGoesOn : List Who → List (List (Entry O R)) → List (List (Entry O R)) → Type 0
   EachGoesOn ws old new = AllZip (GoesOn ws) old new
 
--- the passes are of this kernel, for these players
+-- the passes of cells are of this kernel, for these players
 pub record AreFor (k : Cells) (ws : List Who) (p : Passes) : Type 0 where
   pub work : StandsFor (IsLegal work_machine) work_start ws k.work p.work
   pub clock : StandsFor (IsLegal clock_machine) clock_start ws k.clock p.clock
   pub table : StandsFor (IsLegal table_machine) objects_start ws k.table p.table
   pub sems : AllStand (IsLegal sem_machine) sem_start ws k.sems.items p.sems.items
   pub msgqs : AllStand (IsLegal msgq_machine) msgq_start ws k.msgqs.items p.msgqs.items
-  pub signals : AllStand (IsLegal signal_machine) signal_start ws k.signals.items p.signals.items
   pub chans : AllStand (IsLegal chan_machine) chan_start ws k.chans.items p.chans.items
   pub observers : AllStand (IsLegal obs_machine) obs_start ws k.observers.items p.observers.items
 
--- what is shown goes on by entries of others than these players
+-- what is shown of cells goes on by entries of others than these players
 pub record AllGoOn (ws : List Who) (old new : Shown) : Type 0 where
   pub work : GoesOn ws old.work new.work
   pub clock : GoesOn ws old.clock new.clock
   pub table : GoesOn ws old.table new.table
   pub sems : EachGoesOn ws old.sems new.sems
   pub msgqs : EachGoesOn ws old.msgqs new.msgqs
-  pub signals : EachGoesOn ws old.signals new.signals
   pub chans : EachGoesOn ws old.chans new.chans
   pub observers : EachGoesOn ws old.observers new.observers
-  pub looks : new.looks ≡ old.looks
-  pub looked : new.looked ≡ old.looked
 
 -- who these players are
 abbrev pub whos : List PlayerPlace → List Who
 whos players = map (λ at. at.who) players
 
--- the player is one of those, and just its log is shown of it
-pub record IsKept (s : Content) (ws : List Who) (shown : Shown) (at : PlayerPlace) : Type 0 where
-  pub among : has ws at.who.number ≡ true
-  pub sound : IsSoundPlayer s shown at
+-- what the noted writes at the signal of a number left
+abbrev pub left_at : List Note → ℕ → List Seen
+left_at notes object = map left_by (writes_at notes object)
 
--- these passes stand for these players, in their order, and show of each just its log
-pub record AreGathered (c : Cells) (s : Content) (players : List PlayerPlace) (all : Passes) : Type 0 where
-  pub stand : AreFor c (whos players) all
-  pub kept : All (IsKept s (whos players) (desk_shown all)) players
+-- it is a pass of this signal for the players of these numbers, which have written and found this
+pub record IsSharedFor (numbers : List ℕ) (left found : List Seen) (s : SharedSignal) (p : SigPass) : Type 0 where
+  pub of_signal : shared.IsPassOf s p
+  pub players : shared.pass_players p ≡ numbers
+  pub writes : shared.pass_writes p ≡ left
+  pub looks : shared.pass_looks p ≡ found
 
--- the passes of these players were put together: as long as there are none there is no pass
-abbrev pub AreTogether : Cells → Content → List PlayerPlace → Option Passes → Type 0
-AreTogether c s players None = players ≡ []
-AreTogether c s players (Some all) = AreGathered c s players all
+-- there is one
+abbrev pub HasSharedAt : List ℕ → List Seen → List Seen → SharedSignal → Option SigPass → Type 0
+HasSharedAt numbers left found s None = ⊥
+HasSharedAt numbers left found s (Some p) = IsSharedFor numbers left found s p
 
--- what these passes have seen goes on from what those of these players had, if there were some
-abbrev pub GoOnFrom : List Who → Option Passes → Passes → Type 0
-GoOnFrom ws None now = Unit {0}
-GoOnFrom ws (Some into) now = AllGoOn ws (desk_shown into) (desk_shown now)
+-- where there is a signal
+abbrev pub HasSharedIn : List ℕ → List Seen → List Seen → Option SharedSignal → Option SigPass → Type 0
+HasSharedIn numbers left found None None = Unit {0}
+HasSharedIn numbers left found None (Some p) = ⊥
+HasSharedIn numbers left found (Some s) p = HasSharedAt numbers left found s p
 
--- a caller's passes were put to these: its player is one of these, and they have seen all that it had
-pub record IsAmong (ws : List Who) (all : Option Passes) (c : Caller) : Type 0 where
+-- one for each object number, with what was written and found there
+abbrev pub HaveShared : List ℕ → (ℕ → List Seen) → (ℕ → List Seen) → List (Option SharedSignal) → List (Option SigPass) → Type 0
+HaveShared numbers left found [] [] = Unit {0}
+HaveShared numbers left found (s ∷ signals) (p ∷ passes) =
+    HasSharedIn numbers (left 0) (found 0) s p
+    × HaveShared numbers (λ object. left (suc object)) (λ object. found (suc object)) signals passes
+HaveShared numbers left found signals passes = ⊥
+
+-- the numbers of these players
+abbrev pub numbers_of : List Who → List ℕ
+numbers_of ws = map (λ w. w.number) ws
+
+-- who the players of these callers are
+abbrev pub players_of : List Caller → List Who
+players_of callers = whos (map place_of callers)
+
+-- what these passes have noted, where there are some, and what they found at the signal of a number
+abbrev pub noted_by : Option Passes → List Note
+noted_by None = []
+noted_by (Some p) = p.notes.items
+
+abbrev pub found_at : Option Passes → ℕ → List Seen
+found_at None object = []
+found_at (Some p) object = looks_at_number p.signals.items object
+
+-- what callers have noted, one after the other, and what they found
+abbrev pub all_noted : List Caller → List Note
+all_noted [] = []
+all_noted (c ∷ callers) = noted_by c.passes ++ all_noted callers
+
+abbrev pub all_found : List Caller → ℕ → List Seen
+all_found [] object = []
+all_found (c ∷ callers) object = found_at c.passes object ++ all_found callers object
+
+-- a caller's passes of cells were put to these: its player is one of those, and they have seen all that it had. Of the signals
+-- what it had seen stays as it was, since what stands there for others' writes can't be told before they all are together
+pub record IsAmong (ws : List Who) (all : Passes) (c : Caller) : Type 0 where
   pub among : has ws (place_of c).who.number ≡ true
-  pub seen : OnlyOthersCame false (place_of c).who.number (shown_to c) (shown_by all)
+  pub seen : OnlyOthersCame false (place_of c).who.number (shown_to c) (late (shown_to c) (desk_shown all))
+
+-- these passes stand for these callers' players, in their order: they have seen all that these had of cells, and have noted,
+-- written and found all that these had at signals
+pub record AreGathered (c : Cells) (callers : List Caller) (all : Passes) : Type 0 where
+  pub stand : AreFor c (players_of callers) all
+  pub notes : all.notes.items ≡ all_noted callers
+  pub signals : HaveShared (numbers_of (players_of callers)) (left_at (all_noted callers)) (all_found callers) c.signals.items all.signals.items
+  pub kept : All (IsAmong (players_of callers) all) callers
+
+-- the passes of these callers were put together: as long as there are none there is no pass
+abbrev pub AreTogether : Cells → List Caller → Option Passes → Type 0
+AreTogether c callers None = callers ≡ []
+AreTogether c callers (Some all) = AreGathered c callers all

@@ -5,8 +5,12 @@ pub mod Dealt
 pub mod Desks
 pub mod Joined
 pub mod Kernels
+pub mod Lasting
+pub mod Notes
 pub mod Opened
+pub mod Quick
 pub mod Rests
 pub mod Rows
 pub mod Seats
+pub mod Signals
 pub mod Within

@@ -1,17 +1,22 @@
 -- A new kernel and its callers.
-use Rattle.std.specs.Prelude.{◌≡◌, ℕ, false, Some, List, slice_get}
+use Rattle.std.specs.Prelude.{◌≡◌, ℕ, false, Some, List, [], map, slice_get}
+use Rattle.zk_line.specs.declared.types.Decl.{Decl}
 use Rattle.zk_worker.specs.declared.steps.Step.{Step}
 use Rattle.zk_worker.specs.Protocol.{start_at}
-use Rattle.zk_worker.specs.Shown.{nothing_shown}
+use Rattle.zk_worker.specs.Shown.{Shown, nothing_shown}
 use Rattle.zk_kernel.specs.declared.caller.Caller.{Caller}
 use Rattle.zk_kernel.specs.Callers.{place_of, shown_to, counts_of, is_stopped}
 use Rattle.zk_kernel.specs.Kernels.{Shared}
 use Rattle.zk_kernel.specs.Rests.{AreAllCallers}
 
+-- nothing was shown of the services of these declarations, and no look at a signal or at an item
+abbrev pub nothing_seen : List Decl → Shown
+nothing_seen decls = record (nothing_shown decls) { looks = Some (map (λ decl. []) decls); looked = Some 0 }
+
 -- a caller whose player has made no step, and that has seen nothing and had no turn
 pub record IsNewCaller (k : Shared) (player : ℕ) (c : Caller) : Type 0 where
   pub stands : start_at k.scenario player ≡ Some (place_of c)
-  pub seen : shown_to c ≡ nothing_shown k.scenario.decls
+  pub seen : shown_to c ≡ nothing_seen k.scenario.decls
   pub idle : (step : Step) → counts_of c step ≡ 0
   pub going : is_stopped c ≡ false
 

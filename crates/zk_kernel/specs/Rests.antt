@@ -1,5 +1,5 @@
 -- What is left of a kernel after its callers.
-use Rattle.std.specs.Prelude.{◌≡◌, ℕ, true, false, Some, List, length, map, slice_get, slice_set, All}
+use Rattle.std.specs.Prelude.{◌≡◌, ℕ, true, Some, List, length, map, slice_get, slice_set, All}
 use Rattle.zk_scenario.specs.Content.{Content}
 use Rattle.zk_scenario.specs.Players.{players}
 use Rattle.zk_worker.specs.declared.playing.Stepped.{Stepped}
@@ -7,12 +7,12 @@ use Rattle.zk_worker.specs.Attempt.{Counts}
 use Rattle.zk_worker.specs.Machines.{machines_of}
 use Rattle.zk_worker.specs.Places.{PlayerPlace}
 use Rattle.zk_worker.specs.Playing.{StepOutcome}
-use Rattle.zk_worker.specs.Shown.{OnlyOthersCame}
 use Rattle.zk_world.specs.Sound.{IsSound}
 use Rattle.zk_world.specs.World.{World}
 use Rattle.zk_kernel.specs.declared.caller.Caller.{Caller}
 use Rattle.zk_kernel.specs.Callers.{IsCaller, place_of, shown_to}
 use Rattle.zk_kernel.specs.Kernels.{Shared}
+use Rattle.zk_kernel.specs.Lasting.{Closes}
 
 -- what is left: the scenario, what the services show, and where each player stands
 pub record Left : Type 0 where
@@ -30,8 +30,9 @@ pub record AreAllCallers (k : Shared) (callers : List Caller) : Type 0 where
 pub record HasClosed (k : Shared) (callers : List Caller) (left : Left) : Type 0 where
   pub scenario : left.scenario ≡ k.scenario
   pub players : left.world.players ≡ map place_of callers
-  -- each history goes on from what each caller has seen of it, by entries of others
-  pub seen : All (λ c. OnlyOthersCame false (place_of c).who.number (shown_to c) left.world.shown) callers
+  -- each history goes on from what each caller has seen of it: by entries of others, which at signals stand where it had seen
+  -- writes of nobody
+  pub seen : All (λ c. Closes (place_of c).who.number (shown_to c) left.world.shown) callers
   pub sound : IsSound left.scenario left.world
 
 -- a player of what is left made a step, or none for the cause that is told; all other players stand as they stood

@@ -1,5 +1,5 @@
 -- The cells of the objects of a kind, by object number, and a caller's passes of them.
-use Rattle.std.specs.Prelude.{◌≡◌, ℕ, Bool, false, Option, Some, None, Result, Ok, Err, List, map, slice_get, option_map, option_and_then}
+use Rattle.std.specs.Prelude.{◌≡◌, ℕ, Bool, false, Option, Some, None, Result, Ok, Err, List, map, slice_get, option_map}
 use Rattle.std.specs.List.{AllZip}
 use Rattle.std.specs.Option.{option_map_or}
 use Rattle.zk_base.specs.declared.ids.Who.{Who}
@@ -12,11 +12,7 @@ use Rattle.zk_turn.specs.declared.cell.Cell.{Cell}
 use Rattle.zk_turn.specs.Passes.{given_to}
 use Rattle.zk_worker.specs.declared.steps.StepReply.{StepReply}
 use Rattle.zk_worker.specs.Families.{Family, with_entry, answer_at, EachGrew}
-use Rattle.zk_base.specs.declared.seen.Seen.{Seen}
-use Rattle.zk_model_wait.specs.declared.signal.SignalOp.{SignalOp}
-use Rattle.zk_model_wait.specs.declared.signal.SignalReply.{SignalReply}
-use Rattle.zk_worker.specs.Looks.{seen_after}
-use Rattle.zk_kernel.specs.Seats.{IsAt, IsOwn, seen_at, holds_at}
+use Rattle.zk_kernel.specs.Seats.{IsAt, seen_at, holds_at}
 
 module _ {S O R T : Type 0} where
   -- the state that each cell was made in; an object of another kind has none
@@ -35,12 +31,12 @@ module _ {S O R T : Type 0} where
   abbrev pub holds_in : List (Option (Pass S O R T)) → ℕ → ℕ
   holds_in passes object = option_map_or holds_at (slice_get passes object) 0
 
-  -- a pass of the cell where there is a cell
+  -- a pass of the cell where there is a cell; no looks are made there
   abbrev pub IsSeat : (T → List (Entry O R) → Type 0) → (S → T) → Who → Option (Cell S O R T) →
       Option (Pass S O R T) → Type 0
   IsSeat legal start who None None = Unit {0}
   IsSeat legal start who None (Some p) = ⊥
-  IsSeat legal start who (Some c) p = IsAt legal start c who p
+  IsSeat legal start who (Some c) p = IsAt legal start c who 0 p
 
   -- one for each
   abbrev pub AreSeats : (T → List (Entry O R) → Type 0) → (S → T) → Who → List (Option (Cell S O R T)) →
@@ -67,10 +63,3 @@ module _ {O R T : Type 0} where
   VisitedAt f who step object op old new (Ok None) =
       EachGrew who.number old new × ((tell : ℕ → R → ℕ → StepReply) → answer_at f new tell who object op ≡ None)
   VisitedAt f who step object op old new (Err e) = EachGrew who.number old new
-
--- a look at the signal of this number found this, at the end of what is seen then
-pub record IsSeenAt (number object : ℕ) (old new : List (List (Entry SignalOp SignalReply))) (seen : Seen) : Type 0 where
-  pub history : List (Entry SignalOp SignalReply)
-  pub grew : EachGrew number old new
-  pub there : slice_get new object ≡ Some history
-  pub found : seen ≡ seen_after history

@@ -1,14 +1,14 @@
 -- A caller's pass of one cell, and one attempt with it.
-use Rattle.std.specs.Prelude.{◌≡◌, ℕ, ◌+◌, ◌-◌, ◌^◌, ◌≤◌, min, Option, Some, None, Result, Ok, Err, List, [], ◌∷◌, ◌++◌, length}
+use Rattle.std.specs.Prelude.{◌≡◌, ℕ, ◌+◌, ◌≤◌, Option, Some, None, Result, Ok, Err, List, [], ◌∷◌, ◌++◌, length}
 use Rattle.zk_base.specs.declared.ids.Who.{Who}
 use Rattle.zk_base.specs.declared.ids.Entry.{Entry}
 use Rattle.zk_base.specs.declared.errors.NoMemory.{NoMemory}
 use Rattle.zk_base.specs.Legal.{Machine, state_after}
-use Rattle.zk_base.specs.History.{entry}
+use Rattle.zk_base.specs.History.{entry, IsAbove}
 use Rattle.zk_turn.specs.declared.pass.Pass.{Pass}
 use Rattle.zk_turn.specs.declared.cell.Cell.{Cell}
 use Rattle.zk_turn.specs.Players.{room_of_a_pass}
-use Rattle.zk_turn.specs.Passes.{IsPassOf, pass_players, pass_seen, pass_mine, pass_holds, pass_room, pass_who}
+use Rattle.zk_turn.specs.Passes.{IsPassOf, pass_players, pass_seen, pass_holds, pass_room, pass_who}
 use Rattle.zk_worker.specs.Single.{OthersGrew}
 
 module _ {S O R T : Type 0} where
@@ -22,18 +22,19 @@ module _ {S O R T : Type 0} where
   holds_at None = 0
   holds_at (Some p) = pass_holds p
 
-  -- it is a pass of this cell, and stands for this player alone, which has room for all steps that it hasn't made here
-  pub record IsOwn (legal : T → List (Entry O R) → Type 0) (start : S → T) (c : Cell S O R T) (who : Who)
+  -- it is a pass of this cell, and stands for this player alone, whose looks here are of steps below a number; it has room for
+  -- all steps from the first on that is above its entries and those looks
+  pub record IsOwn (legal : T → List (Entry O R) → Type 0) (start : S → T) (c : Cell S O R T) (who : Who) (looked : ℕ)
       (p : Pass S O R T) : Type 0 where
     pub of_cell : IsPassOf legal start c p
     pub player : pass_who p ≡ who
     pub only : pass_players p ≡ who ∷ []
-    pub room : room_of_a_pass ≤ pass_room p + length (pass_mine p)
+    pub room : (next : ℕ) → IsAbove (pass_seen p) who.number next → looked ≤ next → room_of_a_pass ≤ pass_room p + next
 
   -- there is one
-  abbrev pub IsAt : (T → List (Entry O R) → Type 0) → (S → T) → Cell S O R T → Who → Option (Pass S O R T) → Type 0
-  IsAt legal start c who None = ⊥
-  IsAt legal start c who (Some p) = IsOwn legal start c who p
+  abbrev pub IsAt : (T → List (Entry O R) → Type 0) → (S → T) → Cell S O R T → Who → ℕ → Option (Pass S O R T) → Type 0
+  IsAt legal start c who looked None = ⊥
+  IsAt legal start c who looked (Some p) = IsOwn legal start c who looked p
 
 module _ {O R T : Type 0} where
   -- the entry was made at this history

@@ -1,4 +1,4 @@
-ghost use Rattle.std.specs.Prelude.{◌≡◌, ◌+◌, ◌<◌, true, ℕ};
+ghost use Rattle.std.specs.Prelude.{◌≡◌, ◌+◌, ◌<◌, ◌≤◌, true, ℕ};
 ghost use Rattle.zk_base.specs.Legal.{IsLegal};
 ghost use Rattle.zk_base.specs.History.{IsAbove};
 ghost use Rattle.zk_turn.specs.Players.{room_of_a_pass};
@@ -18,11 +18,12 @@ pub fn visit<S: Service, R: Wait>(
     step: u32,
     op: S::Op,
 ) -> Result<Option<(S::Reply, u64)>, NoMemory>
-    requires at { IsAt (IsLegal S.machine) S.start cell.now who seat.old }
+    requires at { (looked : ℕ) × IsAt (IsLegal S.machine) S.start cell.now who looked seat.old × (looked ≤ step) }
     requires number { step < room_of_a_pass }
     requires later { IsAbove (seen_at seat.old) who.number step }
     requires range { S.machine.in_range (S.start (given_to cell.now)) op ≡ true }
-    ensures at { IsAt (IsLegal S.machine) S.start cell.now who seat.new }
+    ensures at { (looked : ℕ) → IsAt (IsLegal S.machine) S.start cell.now who looked seat.old → looked ≤ step →
+        IsAt (IsLegal S.machine) S.start cell.now who looked seat.new }
     ensures visited { Visited S.machine (S.start (given_to cell.now)) who step op (seen_at seat.old) (seen_at seat.new) result }
     ensures holds { holds_at seat.new ≡ holds_at seat.old + 1 }
 {

@@ -17,11 +17,11 @@ use crate::stop::Stop;
 use std::sync::Wait;
 use zk_base::NoMemory;
 use zk_line::Call;
-use zk_worker::{Answer, Mode, Services, Step, StepReply, Stepped};
+use zk_worker::{Answer, MOST_ATTEMPTS, Mode, Services, Step, StepReply, Stepped};
 
 impl Caller {
-    /// Makes one attempt, of those that `ahead` gives, by a turn at its service: its reply, or nothing where it isn't
-    /// possible.
+    /// Makes one attempt, of those that `ahead` gives, by a turn at its service, and at a signal without one: its reply, or
+    /// nothing where it isn't possible.
     ///
     /// After want of memory it can be called again.
     pub fn attempt<R: Wait>(
@@ -68,8 +68,9 @@ impl Caller {
 
     /// Plays a whole call, which is the one that the player makes next, and waits where it has to.
     ///
-    /// Where it has to wait it lets others run, and then sleeps until a step was made in the kernel. A check that fails ends
-    /// the caller's thread, and is the answer also where a listener's script made it.
+    /// Where it has to wait it lets others run, and then sleeps until a step was made in the kernel; but where it waits for a
+    /// signal it only lets others run. A check that fails ends the caller's thread, and is the answer also where a listener's
+    /// script made it.
     pub fn call<R: Wait>(&mut self, rt: &R, kernel: &Kernel, call: &Call) -> Result<Answer, Stop>
         requires own { IsCaller kernel.now self.old }
         requires lives { lives self.old ≡ true }
@@ -122,6 +123,18 @@ impl Caller {
         None
     }
 
+    // Whether one of its next attempts is a look at a signal.
+    fn looks_at_signals(&self, kernel: &Kernel) -> bool {
+        for index in 0..MOST_ATTEMPTS {
+            match self.player.ahead(kernel.scenario(), index) {
+                Some(Step::LookSignal(_, _)) => return true,
+                Some(_) => {}
+                None => return false,
+            }
+        }
+        false
+    }
+
     // The next step of a call that began when so many scripts were open, or a wait for it; and what the call gives, if it
     // was the last one.
     fn go_on<R: Wait>(
@@ -150,7 +163,7 @@ impl Caller {
                 Some(Ok(answer))
             }
             Ok(Stepped::NotYet) => {
-                patience.wait(rt);
+                patience.wait(rt, self.looks_at_signals(kernel));
                 None
             }
             Ok(Stepped::Ended) => unreachable!(),

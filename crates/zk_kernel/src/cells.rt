@@ -1,14 +1,14 @@
 use zk_bus::Channel;
 use zk_msgq::Msgq;
 use zk_objects::Objects;
-use zk_poll::Signal;
 use zk_sem::Sem;
+use zk_signal::SharedSignal;
 use zk_subq::Observer;
 use zk_time::Clock;
 use zk_turn::Cell;
 use zk_work::Work;
 
-/// The services of a scenario, each in its cell.
+/// The services of a scenario, each in its cell but for the signals, which take no turn.
 #[derive(Drop)]
 pub struct Cells {
     pub(crate) work: Cell<Work>,
@@ -19,7 +19,7 @@ pub struct Cells {
     // Each semaphore, by object number; an object of another kind has none. The others likewise.
     pub(crate) sems: Vec<Option<Cell<Sem>>>,
     pub(crate) msgqs: Vec<Option<Cell<Msgq>>>,
-    pub(crate) signals: Vec<Option<Cell<Signal>>>,
+    pub(crate) signals: Vec<Option<SharedSignal>>,
     pub(crate) chans: Vec<Option<Cell<Channel>>>,
     pub(crate) observers: Vec<Option<Cell<Observer>>>,
 }

@@ -1,10 +1,8 @@
-ghost use Rattle.std.specs.Prelude.{◌≡◌, ◌+◌, ◌<◌, ◌≤◌, ◌++◌, ◌∷◌, [], false, List, Some, All, map, IfOk, vec_len, vec_capacity};
-ghost use Rattle.zk_scenario.specs.Content.{Content};
-ghost use Rattle.zk_worker.specs.Places.{PlayerPlace};
-ghost use Rattle.zk_worker.specs.Shown.{OnlyOthersCame};
-ghost use Rattle.zk_kernel.specs.Callers.{IsCaller, IsPlaying, place_of, shown_to};
-ghost use Rattle.zk_kernel.specs.Desks.{desk_shown};
-ghost use Rattle.zk_kernel.specs.Joined.{AreTogether, AreGathered, GoOnFrom, IsAmong, whos};
+ghost use Rattle.std.specs.Prelude.{◌≡◌, ◌+◌, ◌<◌, ◌≤◌, ◌++◌, ◌∷◌, [], List, Some, map, IfOk, vec_len, vec_capacity};
+ghost use Rattle.zk_kernel.specs.declared.caller.Caller.{Caller};
+ghost use Rattle.zk_kernel.specs.Callers.{IsCaller, place_of};
+ghost use Rattle.zk_kernel.specs.Desks.{IsServed};
+ghost use Rattle.zk_kernel.specs.Joined.{AreTogether, AreGathered};
 ghost use Rattle.zk_kernel.specs.Rests.{AreAllCallers, HasClosed};
 
 use crate::caller::Caller;
@@ -19,23 +17,19 @@ use zk_base::{NoMemory, push_within};
 use zk_scenario::Scenario;
 use zk_worker::Player;
 
-/// Puts the passes of one more player to those of the players before it.
-fn put_together(cells: &Cells, all: Option<Passes>, other: Passes) -> Passes
-    requires all { (s : Content) × (players : List PlayerPlace) × (at : PlayerPlace) × AreTogether cells.now s players all
-        × IsPlaying cells.now s at other }
-    ensures gathered { (s : Content) (players : List PlayerPlace) (at : PlayerPlace) → AreTogether cells.now s players all →
-        IsPlaying cells.now s at other → AreGathered cells.now s (players ++ at ∷ []) result }
-    ensures earlier { (s : Content) (players : List PlayerPlace) (at : PlayerPlace) → AreTogether cells.now s players all →
-        IsPlaying cells.now s at other → GoOnFrom (whos players) all result }
-    ensures later { (s : Content) (players : List PlayerPlace) (at : PlayerPlace) → AreTogether cells.now s players all →
-        IsPlaying cells.now s at other → OnlyOthersCame false at.who.number (desk_shown other) (desk_shown result) }
+/// Puts the passes of one more caller to those of the callers before it.
+fn put_together(cells: &Cells, all: Option<Passes>, other: Passes) -> Result<Passes, NoMemory>
+    requires all { (callers : List Caller) × (c : Caller) × AreTogether cells.now callers all × (c.passes ≡ Some other)
+        × IsServed cells.now other (place_of c).who }
+    ensures { IfOk result (λ made. (callers : List Caller) (c : Caller) → AreTogether cells.now callers all →
+        c.passes ≡ Some other → IsServed cells.now other (place_of c).who → AreGathered cells.now (callers ++ c ∷ []) made) }
 {
     match all {
         Some(mut into) => {
-            join_passes(cells, &mut into, other);
-            into
+            join_passes(cells, &mut into, other)?;
+            Ok(into)
         }
-        None => other,
+        None => Ok(other),
     }
 }
 
@@ -45,13 +39,12 @@ fn gather_one(
     all: Option<Passes>,
     players: &mut Vec<Player>,
     caller: Caller,
-) -> Passes
+) -> Result<Passes, NoMemory>
     requires own { IsCaller kernel.now caller }
-    requires all { AreTogether kernel.now.cells kernel.now.scenario players.old.items all }
+    requires all { (callers : List Caller) × AreTogether kernel.now.cells callers all }
     requires room { vec_len players.old < vec_capacity players.old }
-    ensures all { AreGathered kernel.now.cells kernel.now.scenario players.new.items result }
-    ensures earlier { GoOnFrom (whos players.old.items) all result }
-    ensures later { OnlyOthersCame false (place_of caller).who.number (shown_to caller) (desk_shown result) }
+    ensures all { IfOk result (λ made. (callers : List Caller) → AreTogether kernel.now.cells callers all →
+        AreGathered kernel.now.cells (callers ++ caller ∷ []) made) }
     ensures players { players.new.items ≡ players.old.items ++ place_of caller ∷ [] }
     ensures len { vec_len players.new ≡ vec_len players.old + 1 }
     ensures capacity { vec_capacity players.old ≤ vec_capacity players.new }
@@ -73,23 +66,23 @@ fn gather_all(
     mut callers: Vec<Caller>,
 ) -> Result<(Passes, Vec<Player>), NoMemory>
     requires all { AreAllCallers kernel.now callers.items }
-    ensures together { IfOk result (λ made. AreGathered kernel.now.cells kernel.now.scenario made.1.items made.0) }
+    ensures together { IfOk result (λ made. AreGathered kernel.now.cells callers.items made.0) }
     ensures players { IfOk result (λ made. made.1.items ≡ map place_of callers.items) }
-    ensures seen { IfOk result (λ made. All (IsAmong (whos made.1.items) (Some made.0)) callers.items) }
 {
     let _cells = kernel.cells();
     let mut players = Vec::with_capacity(alloc, callers.len())?;
     let mut all = None;
     callers.reverse();
     while let Some(caller) = callers.pop() {
-        all = Some(gather_one(kernel, all, &mut players, caller));
+        all = Some(gather_one(kernel, all, &mut players, caller)?);
     }
     let Some(all) = all else { unreachable!() };
     Ok((all, players))
 }
 
 impl Kernel {
-    /// Takes the services out of their cells, for all callers that the kernel was made with, in the order of their numbers.
+    /// Takes the services out of their cells, for all callers that the kernel was made with, in the order of their numbers, and
+    /// plays their writes at signals in the order of the stamps.
     ///
     /// A refusal of memory gives all of it up. A caller that a stop has ended comes back with the others: its player goes
     /// on from its log.

@@ -7,12 +7,13 @@ ghost use Rattle.zk_kernel.specs.Joined.{whos};
 use crate::caller::Caller;
 use crate::passes::Passes;
 use std::alloc::Global;
-use zk_base::{NoMemory, Service, push_within};
+use zk_base::{NoMemory, push_within};
 use zk_bus::Channel;
 use zk_msgq::Msgq;
 use zk_objects::Objects;
-use zk_poll::Signal;
+use zk_scenario::MOST_STEPS;
 use zk_sem::Sem;
+use zk_signal::SigPass;
 use zk_subq::Observer;
 use zk_time::Clock;
 use zk_turn::Pass;
@@ -29,16 +30,13 @@ pub struct Undealt {
     // Those of each semaphore, by object number; an object of another kind has none. The others likewise.
     pub(crate) sems: Vec<Vec<Pass<Sem>>>,
     pub(crate) msgqs: Vec<Vec<Pass<Msgq>>>,
-    pub(crate) signals: Vec<Vec<Pass<Signal>>>,
+    pub(crate) signals: Vec<Vec<SigPass>>,
     pub(crate) chans: Vec<Vec<Pass<Channel>>>,
     pub(crate) observers: Vec<Vec<Pass<Observer>>>,
 }
 
 /// Takes the last pass out of each list of a kind.
-fn deal_row<S: Service>(
-    alloc: Global,
-    lists: &mut Vec<Vec<Pass<S>>>,
-) -> Result<Vec<Option<Pass<S>>>, NoMemory>
+fn deal_row<P: Drop>(alloc: Global, lists: &mut Vec<Vec<P>>) -> Result<Vec<Option<P>>, NoMemory>
     ensures { IfOk result (λ row. AllTaken lists.old.items row.items lists.new.items) }
 {
     let mut row = Vec::with_capacity(alloc, lists.len())?;
@@ -54,6 +52,7 @@ fn deal_passes(alloc: Global, undealt: &mut Undealt) -> Result<Passes, NoMemory>
 {
     Ok(Passes {
         work: undealt.work.pop(),
+        looked: 0,
         clock: undealt.clock.pop(),
         table: undealt.table.pop(),
         sems: deal_row(alloc, &mut undealt.sems)?,
@@ -61,6 +60,7 @@ fn deal_passes(alloc: Global, undealt: &mut Undealt) -> Result<Passes, NoMemory>
         signals: deal_row(alloc, &mut undealt.signals)?,
         chans: deal_row(alloc, &mut undealt.chans)?,
         observers: deal_row(alloc, &mut undealt.observers)?,
+        notes: Vec::with_capacity(alloc, MOST_STEPS as usize)?,
     })
 }
 

@@ -1,17 +1,10 @@
-ghost use Rattle.std.specs.Prelude.{◌≡◌, true, Some};
-ghost use Rattle.zk_worker.specs.Attempt.{is_in_range};
-ghost use Rattle.zk_worker.specs.declared.steps.Step.TheVariants.{LookItem};
-ghost use Rattle.zk_worker.specs.Looks.{look_reply};
-ghost use Rattle.zk_worker.specs.Machines.{item_of};
-ghost use Rattle.zk_kernel.specs.Desks as desks;
-
 use crate::at_cell::visit;
 use crate::at_cells::visit_at;
 use crate::cells::Cells;
-use crate::looking::{look, see_at};
 use crate::passes::Passes;
+use crate::quick::quick_attempt;
 use std::sync::Wait;
-use zk_base::{NoMemory, Seen, Who};
+use zk_base::{NoMemory, Who};
 use zk_worker::{Services, Step, StepReply};
 
 /// A caller at the services that others use too: what its player plays on.
@@ -103,18 +96,6 @@ impl<'a, R: Wait> Services for Desk<'a, R> {
                 )?;
                 Ok(made.map(|made| StepReply::Msgq(*object, made.0, made.1)))
             }
-            Step::Signal(object, op) => {
-                let made = visit_at(
-                    self.rt,
-                    &self.cells.signals,
-                    &mut self.passes.signals,
-                    *object,
-                    who,
-                    number,
-                    *op,
-                )?;
-                Ok(made.map(|made| StepReply::Signal(*object, made.0, made.1)))
-            }
             Step::Chan(object, op) => {
                 let made = visit_at(
                     self.rt,
@@ -139,50 +120,13 @@ impl<'a, R: Wait> Services for Desk<'a, R> {
                 )?;
                 Ok(made.map(|made| StepReply::Obs(*object, made.0, made.1)))
             }
-            Step::LookItem(object) => {
-                let item = item_at(self.cells, *object);
-                let (word, at) = look(
-                    self.rt,
-                    &self.cells.work,
-                    &mut self.passes.work,
-                    who,
-                    number,
-                    item,
-                );
-                Ok(Some(StepReply::Flags(word as u8, at)))
-            }
-            Step::LookSignal(object, must) => {
-                let seen = see_at(
-                    self.rt,
-                    &self.cells.signals,
-                    &mut self.passes.signals,
-                    *object,
-                    who,
-                    number,
-                );
-                Ok(told(*must, seen))
-            }
+            Step::Signal(_, _) | Step::LookSignal(_, _) | Step::LookItem(_) => Ok(quick_attempt(
+                self.cells,
+                &mut self.passes,
+                who,
+                number,
+                step,
+            )),
         }
     }
-}
-
-/// What a look that found this is answered: nothing where it has to find the signal raised and doesn't.
-fn told(must: bool, seen: Seen) -> Option<StepReply>
-    ensures { result ≡ look_reply must seen }
-{
-    if must && !seen.raised {
-        return None;
-    }
-    Some(StepReply::Seen(seen))
-}
-
-/// The number of an item at the work service, by its object number.
-fn item_at(cells: &Cells, object: u32) -> u32
-    requires { is_in_range (desks.cells_machines cells.now) (LookItem object) ≡ true }
-    ensures { item_of (desks.cells_machines cells.now) object ≡ Some result }
-{
-    let Some(Some(item)) = cells.items.get(object as usize) else {
-        unreachable!()
-    };
-    *item
 }

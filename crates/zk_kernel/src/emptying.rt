@@ -1,19 +1,24 @@
-ghost use Rattle.std.specs.Prelude.{◌≡◌, ◌<◌, ◌≤◌, ◌*◌, true, List, length, IfOk, All};
+ghost use Rattle.std.specs.Prelude.{◌≡◌, ◌<◌, ◌≤◌, ◌*◌, ℕ, true, List, length, IfOk, All};
 ghost use Rattle.zk_base.specs.Legal.{IsLegal};
 ghost use Rattle.zk_base.specs.declared.ids.Who.{Who};
+ghost use Rattle.zk_base.specs.declared.seen.Seen.{Seen};
+ghost use Rattle.zk_poll.specs.Seen.{signal_history};
 ghost use Rattle.zk_services.specs.Alone.{plain_machines, plain_shown};
+ghost use Rattle.zk_services.specs.Objects.{histories_of};
 ghost use Rattle.zk_turn.specs.Passes.{given_to, players_in};
 ghost use Rattle.zk_turn.specs.Players.{is_by, room_of_a_pass};
 ghost use Rattle.zk_world.specs.Legal.{IsLegalShown};
 ghost use Rattle.zk_world.specs.Within.{AreWithin};
-ghost use Rattle.zk_kernel.specs.Closed.{IsClosed, AreClosed, AllBy};
+ghost use Rattle.zk_kernel.specs.Closed.{IsClosed, AreClosed, AreBy, AllBy, ended, AreInStep, ArePlayed};
 ghost use Rattle.zk_kernel.specs.Desks.{cells_machines, desk_shown};
-ghost use Rattle.zk_kernel.specs.Joined.{StandsFor, StandsIn, AllStand, AreFor};
+ghost use Rattle.zk_kernel.specs.Joined.{StandsFor, StandsIn, AllStand, AreFor, HaveShared, left_at, numbers_of};
 ghost use Rattle.zk_kernel.specs.Kernels.{HasWhole, AreWhole};
+ghost use Rattle.zk_kernel.specs.Notes.{entries_of, writes_at};
 ghost use Rattle.zk_kernel.specs.Seats.{seen_at};
 
 use crate::cells::Cells;
 use crate::passes::Passes;
+use crate::playing::empty_signals;
 use std::alloc::Global;
 use zk_base::{NoMemory, Service};
 use zk_services::Plain;
@@ -62,15 +67,24 @@ fn empty_rows<S: Service>(
     Ok(services)
 }
 
-/// Takes all services out of their cells, for passes that stand for all players.
+/// Takes all services out of their cells, for passes that stand for all players, and plays the writes at signals.
 pub fn empty_cells(alloc: Global, cells: Cells, all: Passes) -> Result<Plain, NoMemory>
-    requires all { (ws : List Who) × AreFor cells ws all × AreWhole cells (length ws) }
+    requires all { (ws : List Who) × (found : ℕ → List Seen) × AreFor cells ws all
+        × HaveShared (numbers_of ws) (left_at all.notes.items) found cells.signals.items all.signals.items
+        × AreWhole cells (length ws) × (length ws < 256) }
+    requires steps { AreInStep all.notes.items }
     ensures machines { IfOk result (λ services. plain_machines services ≡ cells_machines cells) }
-    ensures shown { IfOk result (λ services. plain_shown services ≡ desk_shown all) }
-    ensures legal { IfOk result (λ services. IsLegalShown (cells_machines cells) (desk_shown all)) }
+    ensures shown { IfOk result (λ services. plain_shown services ≡
+        ended (desk_shown all) (histories_of signal_history services.signals.items)) }
+    ensures legal { IfOk result (λ services. IsLegalShown (cells_machines cells)
+        (ended (desk_shown all) (histories_of signal_history services.signals.items))) }
     ensures short { IfOk result (λ services. (ws : List Who) → AreWhole cells (length ws) →
-        AreWithin (desk_shown all) (room_of_a_pass * length ws)) }
-    ensures mine { IfOk result (λ services. (ws : List Who) → AreFor cells ws all → AllBy ws (desk_shown all)) }
+        AreWithin (ended (desk_shown all) (histories_of signal_history services.signals.items)) (room_of_a_pass * length ws)) }
+    ensures mine { IfOk result (λ services. (ws : List Who) → AreFor cells ws all → AreBy ws (entries_of all.notes.items) →
+        AllBy ws (ended (desk_shown all) (histories_of signal_history services.signals.items))) }
+    ensures played { IfOk result (λ services. (ws : List Who) (found : ℕ → List Seen) →
+        HaveShared (numbers_of ws) (left_at all.notes.items) found cells.signals.items all.signals.items →
+        ArePlayed (writes_at all.notes.items) found cells.signals.items services.signals.items) }
 {
     Ok(Plain {
         work: empty_one(cells.work, all.work),
@@ -79,7 +93,7 @@ pub fn empty_cells(alloc: Global, cells: Cells, all: Passes) -> Result<Plain, No
         table: empty_one(cells.table, all.table),
         sems: empty_rows(alloc, cells.sems, all.sems)?,
         msgqs: empty_rows(alloc, cells.msgqs, all.msgqs)?,
-        signals: empty_rows(alloc, cells.signals, all.signals)?,
+        signals: empty_signals(alloc, cells.signals, all.signals, &all.notes)?,
         chans: empty_rows(alloc, cells.chans, all.chans)?,
         observers: empty_rows(alloc, cells.observers, all.observers)?,
     })

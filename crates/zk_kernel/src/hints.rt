@@ -4,6 +4,7 @@ use crate::kernel::Kernel;
 use crate::passes::Passes;
 use zk_base::Service;
 use zk_services::{ServiceId, service_of};
+use zk_signal::SharedSignal;
 use zk_turn::{Cell, Pass};
 use zk_worker::MOST_ATTEMPTS;
 
@@ -27,7 +28,15 @@ fn has_grown_at<S: Service>(
     }
 }
 
-/// Whether this service has more entries than a caller has seen of it.
+/// Whether the signal of this number is raised: then a look that has to find it raised is worth trying just now.
+fn is_raised_at(signals: &[Option<SharedSignal>], object: u32) -> bool {
+    match signals.get(object as usize) {
+        Some(Some(signal)) => signal.is_raised(),
+        _ => false,
+    }
+}
+
+/// Whether this service has more entries than a caller has seen of it, or is a signal that is raised.
 fn has_news_of(cells: &Cells, passes: &Passes, service: ServiceId) -> bool {
     match service {
         ServiceId::Work => has_grown(&cells.work, &passes.work),
@@ -35,14 +44,15 @@ fn has_news_of(cells: &Cells, passes: &Passes, service: ServiceId) -> bool {
         ServiceId::Table => has_grown(&cells.table, &passes.table),
         ServiceId::Sem(object) => has_grown_at(&cells.sems, &passes.sems, object),
         ServiceId::Msgq(object) => has_grown_at(&cells.msgqs, &passes.msgqs, object),
-        ServiceId::Signal(object) => has_grown_at(&cells.signals, &passes.signals, object),
+        ServiceId::Signal(object) => is_raised_at(&cells.signals, object),
         ServiceId::Chan(object) => has_grown_at(&cells.chans, &passes.chans, object),
         ServiceId::Obs(object) => has_grown_at(&cells.observers, &passes.observers, object),
     }
 }
 
 impl Caller {
-    /// Whether a service that one of its next attempts asks has had an entry since the caller's last turn there.
+    /// Whether a service that one of its next attempts asks has had an entry since the caller's last turn there, or is a signal
+    /// that is raised.
     ///
     /// It costs one load for each attempt, and no turn. It is a hint, of use after a step that answered `NotYet`: without news a
     /// further one would answer that again. Nothing is claimed of it.

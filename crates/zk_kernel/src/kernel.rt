@@ -9,8 +9,8 @@ use zk_scenario::Scenario;
 
 /// The services of a scenario, which the threads of its players share by reference.
 ///
-/// Each service has a cell, and a caller one turn at one of them at a time. A kernel takes the callers that it was made
-/// with, and no others.
+/// Each service has a cell, and a caller one turn at one of them at a time; the signals take no turn. A kernel takes the
+/// callers that it was made with, and no others.
 #[derive(Drop)]
 pub struct Kernel {
     cells: Cells,
@@ -41,7 +41,7 @@ impl Kernel {
         }
     }
 
-    /// The services, each in its cell.
+    /// The services.
     pub(crate) fn cells(&self) -> &Cells
         ensures cells { result.now ≡ self.now.cells }
         ensures made { IsMadeFor self.now.cells self.now.scenario }

@@ -81,7 +81,13 @@ impl<'a> Patience<'a> {
     }
 
     /// No attempt was possible: waits before the next.
-    pub fn wait<R: Wait>(&mut self, rt: &R) {
+    ///
+    /// Of writes at signals nobody is told, so who looks for one doesn't sleep.
+    pub fn wait<R: Wait>(&mut self, rt: &R, looks_at_signals: bool) {
+        if looks_at_signals {
+            thread::yield_now();
+            return;
+        }
         match self.seen {
             Some(seen) => self.seen = Some(self.news.sleep(rt, seen)),
             None if self.tries < TRIES => {

@@ -1,15 +1,17 @@
-ghost use Rattle.std.specs.Prelude.{◌≡◌, ◌<◌, ◌≤◌, length, map, option_map, All, IfOk};
+ghost use Rattle.std.specs.Prelude.{◌≡◌, ◌<◌, ◌≤◌, length, map, option_map, is_some, All, IfOk};
 ghost use Rattle.zk_base.specs.Legal.{IsLegal};
 ghost use Rattle.zk_scenario.specs.Players.{players};
+ghost use Rattle.zk_poll.specs.Seen.{signal_start};
 ghost use Rattle.zk_services.specs.Alone.{plain_machines};
 ghost use Rattle.zk_turn.specs.Passes.{given_to};
 ghost use Rattle.zk_turn.specs.Players.{Differ};
-ghost use Rattle.zk_kernel.specs.Dealt.{IsUnused, AreUnused, AreLeft, AllLeft, AreUndealt};
+ghost use Rattle.zk_kernel.specs.Dealt.{IsBegun, IsUnused, AreUnused, AreLeft, AllLeft, AreSigLeft, AllSigLeft, AreUndealt};
 ghost use Rattle.zk_kernel.specs.Desks.{cells_machines};
 ghost use Rattle.zk_kernel.specs.Joined.{whos};
-ghost use Rattle.zk_kernel.specs.Kernels.{HasWhole, AreWhole};
+ghost use Rattle.zk_kernel.specs.Kernels.{HasWhole, IsSharedBy, AreWhole};
 ghost use Rattle.zk_kernel.specs.Opened.{AreNewCallers};
 ghost use Rattle.zk_kernel.specs.Rows.{starts_in};
+ghost use Rattle.zk_kernel.specs.Signals.{signal_family};
 
 use crate::caller::Caller;
 use crate::cells::Cells;
@@ -17,8 +19,10 @@ use crate::dealing::{Undealt, deal_all};
 use crate::kernel::Kernel;
 use std::alloc::Global;
 use zk_base::{NoMemory, Service, Who, push_within};
+use zk_poll::Signal;
 use zk_scenario::Scenario;
 use zk_services::{Plain, first_players, first_services};
+use zk_signal::{SharedSignal, SigPass};
 use zk_turn::{Cell, Pass};
 use zk_worker::Player;
 
@@ -67,7 +71,59 @@ fn open_row<S: Service>(
     Ok((cells, lists))
 }
 
-/// A cell for each service, and the passes of them for these players.
+/// The numbers of these players.
+fn numbers_of(alloc: Global, whos: &[Who]) -> Result<Vec<u32>, NoMemory>
+    ensures { IfOk result (λ made. made.items ≡ map (λ w. w.number) whos.now) }
+{
+    let mut numbers = Vec::new(alloc);
+    for who in whos {
+        numbers.push(who.number)?;
+    }
+    Ok(numbers)
+}
+
+/// A shared signal where an object has a signal, and a pass for each player, in order.
+fn open_signal(
+    alloc: Global,
+    has_one: bool,
+    whos: &[Who],
+) -> Result<(Option<SharedSignal>, Vec<SigPass>), NoMemory>
+    requires few { length whos.now ≤ 256 }
+    ensures some { IfOk result (λ made. is_some made.0 ≡ has_one) }
+    ensures whole { IfOk result (λ made. IsSharedBy (length whos.now) made.0) }
+    ensures passes { IfOk result (λ made. AreSigLeft whos.now made.0 made.1.items) }
+{
+    if has_one {
+        let numbers = numbers_of(alloc, whos)?;
+        let (signal, passes) = SharedSignal::new(alloc, &numbers)?;
+        return Ok((Some(signal), passes));
+    }
+    Ok((None, Vec::new(alloc)))
+}
+
+/// A shared signal in place of each signal, and a pass of each for each player, in order.
+fn open_signals(
+    alloc: Global,
+    services: &[Option<Signal>],
+    whos: &[Who],
+) -> Result<(Vec<Option<SharedSignal>>, Vec<Vec<SigPass>>), NoMemory>
+    requires begun { All IsBegun services.now }
+    requires few { length whos.now ≤ 256 }
+    ensures starts { IfOk result (λ made. (signal_family made.0.items).starts ≡ map (option_map signal_start) services.now) }
+    ensures whole { IfOk result (λ made. All (IsSharedBy (length whos.now)) made.0.items) }
+    ensures passes { IfOk result (λ made. AllSigLeft whos.now made.0.items made.1.items) }
+{
+    let mut signals = Vec::with_capacity(alloc, services.len())?;
+    let mut lists = Vec::with_capacity(alloc, services.len())?;
+    for service in services {
+        let (signal, passes) = open_signal(alloc, service.is_some(), whos)?;
+        push_within(&mut signals, signal);
+        push_within(&mut lists, passes);
+    }
+    Ok((signals, lists))
+}
+
+/// A cell for each service, a shared signal for each signal, and the passes of them for these players.
 fn open_cells(alloc: Global, services: Plain, whos: &[Who]) -> Result<(Cells, Undealt), NoMemory>
     requires unused { AreUnused services }
     requires few { length whos.now ≤ 256 }
@@ -81,7 +137,7 @@ fn open_cells(alloc: Global, services: Plain, whos: &[Who]) -> Result<(Cells, Un
     let table = Cell::new(alloc, services.table, whos)?;
     let sems = open_row(alloc, services.sems, whos)?;
     let msgqs = open_row(alloc, services.msgqs, whos)?;
-    let signals = open_row(alloc, services.signals, whos)?;
+    let signals = open_signals(alloc, &services.signals, whos)?;
     let chans = open_row(alloc, services.chans, whos)?;
     let observers = open_row(alloc, services.observers, whos)?;
     let cells = Cells {

@@ -61,14 +61,15 @@ fn attempts_are_made_by_hand(rt: HostRuntime) -> Result<(), Fail> {
 }
 
 #[test]
-fn a_look_stands_between_two_submissions(rt: HostRuntime) -> Result<(), Fail> {
+fn a_look_stands_where_the_flags_changed_last(rt: HostRuntime) -> Result<(), Fail> {
+    // The second submission finds the item queued and leaves its flags as they were.
     let moves = [Move::Calls(0), Move::Step(2), Move::Calls(1), Move::Step(2)];
     let report = played(&rt, rt.alloc(), looked_at(), &moves)?;
     assert!(rt; report.moves.as_slice() == b"yyyy".as_slice());
     assert!(rt;
         has(
             &report.text,
-            b"look watcher.0 busy report = q @1\nlook watcher.1 busy report = q @2\n"
+            b"look watcher.0 busy report = q @1\nlook watcher.1 busy report = q @1\n"
         )
     );
     Ok(())

@@ -10,6 +10,8 @@ mod parts;
 #[cfg(test)]
 mod played;
 #[cfg(test)]
+mod quick_tests;
+#[cfg(test)]
 mod round_tests;
 mod rounds;
 #[cfg(test)]
@@ -19,6 +21,6 @@ mod texts;
 #[cfg(test)]
 mod thread_tests;
 
-pub use ones::{attempt_one, play_one, step_one};
+pub use ones::{attempt_one, play_one, quick_one, step_one};
 pub use parts::{play_calls, play_each, play_steps};
 pub use rounds::{finish, play_rounds};

@@ -1,7 +1,7 @@
 //! What a test does with the callers of a kernel, as data: the tests' own bodies stay small, since each is proved.
 ghost use Rattle.zk_kernel.specs.Rests.{AreAllCallers};
 
-use crate::{attempt_one, play_each, play_one, play_rounds, step_one};
+use crate::{attempt_one, play_each, play_one, play_rounds, quick_one, step_one};
 use std::sync::Wait;
 use std::thread::Threads;
 use zk_kernel::{Caller, Kernel, Stop};
@@ -18,6 +18,8 @@ pub enum Move {
     Step(usize),
     /// The attempt of this index of this caller.
     Attempt(usize, u32),
+    /// The attempt of this index of this caller, without a turn, if it takes none.
+    Quick(usize, u32),
     /// So many rounds, each of one step of each caller where it can make one.
     Rounds(u32),
     /// Each caller in a thread of its own, as far as it gets: by whole calls, or by steps.
@@ -84,6 +86,10 @@ pub fn make_move<R: Threads + Wait + Sync>(
         Move::Steps(number) => letter_of_stop(play_one(rt, kernel, callers, number, false)),
         Move::Step(number) => step(rt, kernel, callers, number),
         Move::Attempt(number, index) => attempt(rt, kernel, callers, number, index),
+        Move::Quick(number, index) => match quick_one(kernel, callers, number, index) {
+            Some(_) => b'y',
+            None => b'n',
+        },
         Move::Rounds(rounds) => match play_rounds(rt, kernel, callers, rounds) {
             Ok(()) => b'y',
             Err(_) => b'm',

@@ -3,7 +3,7 @@ ghost use Rattle.zk_kernel.specs.Rests.{AreAllCallers};
 use crate::parts::{play_calls, play_steps};
 use std::sync::Wait;
 use zk_base::NoMemory;
-use zk_kernel::{Caller, Kernel, Stop};
+use zk_kernel::{Caller, Kernel, Stop, is_quick};
 use zk_worker::{StepReply, Stepped};
 
 /// One step of the caller of this number, if there is one.
@@ -41,6 +41,26 @@ pub fn attempt_one<R: Wait>(
         return Ok(None);
     };
     callers[number].attempt(rt, kernel, &step)
+}
+
+/// The attempt of this index of the caller of this number, made without a turn, if it is one that takes none.
+pub fn quick_one(
+    kernel: &Kernel,
+    callers: &mut Vec<Caller>,
+    number: usize,
+    index: u32,
+) -> Option<StepReply>
+    requires all { AreAllCallers kernel.now callers.old.items }
+    ensures all { AreAllCallers kernel.now callers.new.items }
+{
+    if number >= callers.len() {
+        return None;
+    }
+    let step = callers[number].ahead(kernel, index)?;
+    if !is_quick(&step) {
+        return None;
+    }
+    callers[number].quick(kernel, &step)
 }
 
 /// The calls of the caller of this number, up to the end of its script, or its steps, as far as they get.

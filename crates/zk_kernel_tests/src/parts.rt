@@ -4,7 +4,8 @@ ghost use Rattle.zk_kernel.specs.Rests.{AreAllCallers};
 
 use std::sync::Wait;
 use std::thread::{self, Threads};
-use zk_kernel::{Caller, Kernel, Stop};
+use zk_base::NoMemory;
+use zk_kernel::{Caller, Kernel, Stop, is_quick};
 use zk_worker::Stepped;
 
 /// How often a caller tries in vain before it gives up.
@@ -28,6 +29,30 @@ pub fn play_calls<R: Wait>(rt: &R, kernel: &Kernel, caller: &mut Caller) -> Resu
     Ok(())
 }
 
+/// The first of a caller's attempts, made without a turn, where it is one that takes none: whether it gave a reply.
+fn made_quickly(kernel: &Kernel, caller: &mut Caller) -> bool
+    requires own { IsCaller kernel.now caller.old }
+    ensures own { IsCaller kernel.now caller.new }
+    ensures who { (place_of caller.new).who ≡ (place_of caller.old).who }
+{
+    match caller.ahead(kernel, 0) {
+        Some(step) if is_quick(&step) => caller.quick(kernel, &step).is_some(),
+        _ => false,
+    }
+}
+
+/// A step of a caller, without a turn where its first attempt takes none and gives a reply.
+fn step_quickly<R: Wait>(rt: &R, kernel: &Kernel, caller: &mut Caller) -> Result<Stepped, NoMemory>
+    requires own { IsCaller kernel.now caller.old }
+    ensures own { IsCaller kernel.now caller.new }
+    ensures who { (place_of caller.new).who ≡ (place_of caller.old).who }
+{
+    if made_quickly(kernel, caller) {
+        return Ok(Stepped::Did);
+    }
+    caller.step(rt, kernel)
+}
+
 /// Makes steps of a caller, a worker too, as long as some are possible within many tries.
 pub fn play_steps<R: Wait>(rt: &R, kernel: &Kernel, caller: &mut Caller)
     requires own { IsCaller kernel.now caller.old }
@@ -36,7 +61,7 @@ pub fn play_steps<R: Wait>(rt: &R, kernel: &Kernel, caller: &mut Caller)
 {
     let mut tries = 0;
     for _ in rt.forever() {
-        match caller.step(rt, kernel) {
+        match step_quickly(rt, kernel, caller) {
             Ok(Stepped::Did) => tries = 0,
             Ok(Stepped::NotYet) if tries < TRIES => {
                 tries += 1;

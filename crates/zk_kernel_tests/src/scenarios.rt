@@ -106,3 +106,70 @@ pub fn sixteen_takers(alloc: Global) -> Result<Vec<u8>, NoMemory> {
     text.extend_from_slice(b"end\n")?;
     Ok(text)
 }
+
+/// A thread that raises a signal, and one that looks at it; another signal that nobody uses.
+pub fn raised() -> &'static [u8] {
+    b"zk 1\nthread first 0 super\nthread second 0 super\nsignal ready\nsignal unused\nsem done 0 1\n\
+    script first\nraise ready 7\ngive done\nend\nscript second\ncheck ready\nend\n"
+}
+
+/// A thread that polls a signal, and one that raises it.
+pub fn polled() -> &'static [u8] {
+    b"zk 1\nthread poller 0 super\nthread raiser 0 super\nsignal ready\nscript poller\npoll forever sig:ready\nend\n\
+    script raiser\nraise ready 3\nend\n"
+}
+
+/// Four threads that write and look at one signal, and a fifth that polls it.
+pub fn contended() -> &'static [u8] {
+    b"zk 1\nthread a 0 super\nthread b 0 super\nthread c 0 super\nthread d 0 super\nthread poller 0 super\nsignal s\n\
+    script a\nraise s 1\ncheck s\nclear s\ncheck s\nraise s 2\nend\nscript b\nraise s 3\ncheck s\nclear s\ncheck s\nraise s 4\nend\n\
+    script c\ncheck s\nclear s\ncheck s\nraise s 5\ncheck s\nend\nscript d\nclear s\ncheck s\nraise s 6\ncheck s\nraise s 7\nend\n\
+    script poller\npoll no sig:s\npoll forever sig:s\npoll no sig:s\ncheck s\nend\n"
+}
+
+/// Sixty-four threads and thirty-two signals: each thread raises one, looks at it, and looks at the first one.
+pub fn many_signals(alloc: Global) -> Result<Vec<u8>, NoMemory> {
+    let mut text = Vec::new(alloc);
+    text.extend_from_slice(b"zk 1\n")?;
+    for high in b"abcdefgh" {
+        for low in b"abcdefgh" {
+            text.extend_from_slice(b"thread ")?;
+            text.extend_from_slice(&[*high, *low])?;
+            text.extend_from_slice(b" 0 super\n")?;
+        }
+    }
+    for high in b"stuv" {
+        for low in b"abcdefgh" {
+            text.extend_from_slice(b"signal ")?;
+            text.extend_from_slice(&[*high, *low])?;
+            text.push(b'\n')?;
+        }
+    }
+    for (high, signals) in b"abcdefgh".iter().zip(b"sstuuvvt") {
+        for low in b"abcdefgh" {
+            text.extend_from_slice(b"script ")?;
+            text.extend_from_slice(&[*high, *low])?;
+            text.extend_from_slice(b"\nraise ")?;
+            text.extend_from_slice(&[*signals, *low])?;
+            text.extend_from_slice(b" 5\ncheck ")?;
+            text.extend_from_slice(&[*signals, *low])?;
+            text.extend_from_slice(b"\ncheck sa\nend\n")?;
+        }
+    }
+    Ok(text)
+}
+
+/// As many polls of seven semaphores and a signal as make all the steps that a player may make.
+pub fn signal_spender(alloc: Global) -> Result<Vec<u8>, NoMemory> {
+    let mut text = Vec::new(alloc);
+    text.extend_from_slice(
+        b"zk 1\nthread main 0 super\nsem done 0 1\nsignal never\nscript main\n",
+    )?;
+    for _ in 0..2_600 {
+        text.extend_from_slice(
+            b"poll no sem:done sem:done sem:done sig:never sem:done sem:done sem:done sem:done\n",
+        )?;
+    }
+    text.extend_from_slice(b"end\n")?;
+    Ok(text)
+}

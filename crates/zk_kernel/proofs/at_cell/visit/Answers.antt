@@ -1,27 +1,26 @@
-use Rattle.std.proofs.Common.{rules, ◌≡◌, ◌+◌, ◌<◌, true, ℕ, ◌-◌, ◌*◌, ◌≤◌, length, Bool, false, Some, None, List, [], ◌∷◌, ◌++◌, refl, sym, ap, subst, ◌∙◌}
-use Rattle.std.specs.declared.option.Option.{Option}
+use Rattle.std.proofs.Common.{◌≡◌, ◌+◌, None, List, sym, ap, subst, ◌∙◌}
 use Rattle.zk_base.specs.declared.ids.Who.{Who}
 use Rattle.zk_base.specs.declared.ids.Entry.{Entry}
 use Rattle.zk_base.specs.Legal.{IsLegal, state_after}
 use Rattle.zk_base.specs.History.{IsAbove}
-use Rattle.zk_turn.specs.Players.{room_of_a_pass, GoesOn}
+use Rattle.zk_turn.specs.Players.{GoesOn}
 use Rattle.zk_turn.specs.Passes.{given_to, service_of, held_who}
 use Rattle.zk_worker.specs.Single.{OthersGrew}
-use Rattle.zk_kernel.specs.Seats.{IsEntered, IsAt, seen_at, holds_at, Visited}
-use Rattle.zk_kernel.proofs.Visiting.{room_left, still_above, others_grew, entered, refused}
+use Rattle.zk_kernel.specs.Seats.{IsEntered, seen_at}
+use Rattle.zk_kernel.proofs.Visiting.{room_left, turn-players, own-still, own-entered, still_above, others_grew, entered, refused}
 use Rattle.zk_kernel.proofs.at_cell.visit.Goals as goal
 
 pub enter-held-requires-clause-room : goal.enter-held-requires-clause-room
 enter-held-requires-clause-room g c =
     let is = sym c.take.ensures.value ∙ c.in-Some.is in
-    let own = rw is at c.requires.at in
+    let at = rw is at c.requires.at in
     let later = rw is at c.requires.later in
-    room_left c.in-Some.pass.seat.me.0.players c.args.who c.in-Some.pass.seat.me.0.seen c.args.step c.in-Some.pass.room own.only own.of_cell.lawful.1 later c.requires.number own.room
+    room_left (IsLegal g.S.Service.machine) g.S.Service.start c.args.cell.now c.args.who at.0 c.args.step c.in-Some.pass at.1 later at.2 c.requires.number
 
 pub act-answer-requires-clause-later : goal.act-answer-requires-clause-later
 act-answer-requires-clause-later g c =
     let is = sym c.take.ensures.value ∙ c.in-Some.is in
-    let own = rw is at c.requires.at in
+    let own = (rw is at c.requires.at).1 in
     let later = rw is at c.requires.later in
     let who = c.enter-held.ensures.who ∙ own.player in
     let seen = c.in-Some.pass.seat.me.0.seen in
@@ -29,12 +28,63 @@ act-answer-requires-clause-later g c =
     let goes = subst (λ (ws : List Who). GoesOn ws seen h) own.only c.enter-held.ensures.seen in
     subst (λ (w : Who). IsAbove h w.number c.args.step) (sym who) (still_above c.args.who seen h c.args.step goes later)
 
+pub returns-in-Ok-Some-clause-at : goal.returns-in-Ok-Some-clause-at
+returns-in-Ok-Some-clause-at g c = λ looked at low.
+    let is = sym c.take.ensures.value ∙ c.in-Some.is in
+    let was = rw is at at in
+    let later = rw is at c.requires.later in
+    let turn = c.act-answer.ensures.turn in
+    let before = c.enter-held.result in
+    let after = c.act-answer.new.self in
+    let h = g.S.Service.history (service_of before) in
+    let entered = rw c.in-Ok-Some.field-0-is at (rw c.in-Ok-Some.is at c.act-answer.ensures.entry) in
+    let spent = rw c.in-Ok-Some.field-0-is at (rw c.in-Ok-Some.is at c.act-answer.ensures.spends) in
+    own-entered (IsLegal g.S.Service.machine) g.S.Service.start c.args.cell.now c.args.who looked c.args.step c.in-Some.pass was later low
+    c.leave.result c.leave.ensures.own (c.leave.ensures.who ∙ turn.who ∙ c.enter-held.ensures.who)
+    (c.leave.ensures.players ∙ turn-players before after turn ∙ c.enter-held.ensures.players)
+    h c.args.op c.in-Ok-Some.reply (held_who before) (c.leave.ensures.seen ∙ entered) (c.enter-held.ensures.who ∙ was.player)
+    (ap (λ n. n + 1) c.leave.ensures.room ∙ spent.room ∙ c.enter-held.ensures.room)
+
+pub returns-in-Ok-None-clause-at : goal.returns-in-Ok-None-clause-at
+returns-in-Ok-None-clause-at g c = λ looked at low.
+    let is = sym c.take.ensures.value ∙ c.in-Some.is in
+    let was = rw is at at in
+    let later = rw is at c.requires.later in
+    let turn = c.act-answer.ensures.turn in
+    let before = c.enter-held.result in
+    let after = c.act-answer.new.self in
+    let h = g.S.Service.history (service_of before) in
+    let goes = subst (λ (ws : List Who). GoesOn ws c.in-Some.pass.seat.me.0.seen h) was.only c.enter-held.ensures.seen in
+    let same = rw c.in-Ok-None.field-0-is at (rw c.in-Ok-None.is at c.act-answer.ensures.entry) in
+    let unspent = rw c.in-Ok-None.field-0-is at (rw c.in-Ok-None.is at c.act-answer.ensures.spends) in
+    own-still (IsLegal g.S.Service.machine) g.S.Service.start c.args.cell.now c.args.who looked c.args.step c.in-Some.pass was later low
+    c.leave.result c.leave.ensures.own (c.leave.ensures.who ∙ turn.who ∙ c.enter-held.ensures.who)
+    (c.leave.ensures.players ∙ turn-players before after turn ∙ c.enter-held.ensures.players)
+    h goes (c.leave.ensures.seen ∙ same) (c.leave.ensures.room ∙ unspent.room ∙ c.enter-held.ensures.room)
+
+pub returns-in-Err-clause-at : goal.returns-in-Err-clause-at
+returns-in-Err-clause-at g c = λ looked at low.
+    let is = sym c.take.ensures.value ∙ c.in-Some.is in
+    let was = rw is at at in
+    let later = rw is at c.requires.later in
+    let turn = c.act-answer.ensures.turn in
+    let before = c.enter-held.result in
+    let after = c.act-answer.new.self in
+    let h = g.S.Service.history (service_of before) in
+    let goes = subst (λ (ws : List Who). GoesOn ws c.in-Some.pass.seat.me.0.seen h) was.only c.enter-held.ensures.seen in
+    let same = rw c.in-Err.is at c.act-answer.ensures.err in
+    let unspent = rw c.in-Err.is at c.act-answer.ensures.spends in
+    own-still (IsLegal g.S.Service.machine) g.S.Service.start c.args.cell.now c.args.who looked c.args.step c.in-Some.pass was later low
+    c.leave.result c.leave.ensures.own (c.leave.ensures.who ∙ turn.who ∙ c.enter-held.ensures.who)
+    (c.leave.ensures.players ∙ turn-players before after turn ∙ c.enter-held.ensures.players)
+    h goes (c.leave.ensures.seen ∙ same) (c.leave.ensures.room ∙ unspent.room ∙ c.enter-held.ensures.room)
+
 pub returns-in-Ok-Some-clause-visited : goal.returns-in-Ok-Some-clause-visited
 returns-in-Ok-Some-clause-visited g c =
     let m = g.S.Service.machine in
     let start = g.S.Service.start (given_to c.args.cell.now) in
     let is = sym c.take.ensures.value ∙ c.in-Some.is in
-    let own = rw is at c.requires.at in
+    let own = (rw is at c.requires.at).1 in
     let who = c.enter-held.ensures.who ∙ own.player in
     let seen = c.in-Some.pass.seat.me.0.seen in
     let h = g.S.Service.history (service_of c.enter-held.result) in
@@ -49,7 +99,7 @@ returns-in-Ok-None-clause-visited g c =
     let m = g.S.Service.machine in
     let start = g.S.Service.start (given_to c.args.cell.now) in
     let is = sym c.take.ensures.value ∙ c.in-Some.is in
-    let own = rw is at c.requires.at in
+    let own = (rw is at c.requires.at).1 in
     let who = c.enter-held.ensures.who ∙ own.player in
     let seen = c.in-Some.pass.seat.me.0.seen in
     let h = g.S.Service.history (service_of c.enter-held.result) in
@@ -64,7 +114,7 @@ returns-in-Ok-None-clause-visited g c =
 pub returns-in-Err-clause-visited : goal.returns-in-Err-clause-visited
 returns-in-Err-clause-visited g c =
     let is = sym c.take.ensures.value ∙ c.in-Some.is in
-    let own = rw is at c.requires.at in
+    let own = (rw is at c.requires.at).1 in
     let seen = c.in-Some.pass.seat.me.0.seen in
     let h = g.S.Service.history (service_of c.enter-held.result) in
     let goes = subst (λ (ws : List Who). GoesOn ws seen h) own.only c.enter-held.ensures.seen in

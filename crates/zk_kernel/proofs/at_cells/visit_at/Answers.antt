@@ -1,10 +1,7 @@
-use Rattle.std.proofs.Common.{rules, ◌≡◌, ◌+◌, ◌<◌, ◌≢◌, true, ℕ, length, slice_get, Some, Option, List, set, get_or, refl, sym, ap, subst, ◌∙◌, arith}
-use Rattle.zk_base.specs.declared.ids.Entry.{Entry}
+use Rattle.std.proofs.Common.{◌+◌, Some, get_or, sym, ap, subst, ◌∙◌, arith}
 use Rattle.zk_base.specs.Legal.{IsLegal}
-use Rattle.zk_base.specs.History.{IsAbove}
-use Rattle.zk_turn.specs.Passes.{given_to}
-use Rattle.zk_kernel.specs.Seats.{Visited, seen_at, holds_at}
-use Rattle.zk_kernel.specs.Rows.{family, seen_all, holds_in, IsSeat, AreSeats, takes_in, VisitedAt}
+use Rattle.zk_kernel.specs.Seats.{seen_at, holds_at}
+use Rattle.zk_kernel.specs.Rows.{IsSeat}
 use Rattle.zk_kernel.proofs.Rowing.{taken-there, taken-one, cell-of, as_many, there, seat-there, seats-set, seen-there, holds-there, holds-new, holds-still, visited-among}
 use Rattle.zk_kernel.proofs.at_cells.visit_at.Goals as goal
 

@@ -1,54 +1,53 @@
-use Rattle.std.proofs.Common.{rules, ◌≡◌, false, List, [], ◌∷◌, ◌++◌, Some, None, Option, refl, sym, ap, subst, ◌∙◌}
+use Rattle.std.proofs.Common.{◌≡◌, List, [], ◌∷◌, ◌++◌, Option, sym, subst}
 use Rattle.zk_base.specs.declared.ids.Who.{Who}
-use Rattle.zk_scenario.specs.Content.{Content}
-use Rattle.zk_worker.specs.Places.{PlayerPlace}
+use Rattle.zk_kernel.specs.declared.caller.Caller.{Caller}
 use Rattle.zk_kernel.specs.declared.passes.Passes.{Passes}
-use Rattle.zk_worker.proofs.Between.{between-none}
-use Rattle.zk_kernel.specs.Desks.{desk_shown}
-use Rattle.zk_kernel.specs.Joined.{AreTogether, AreGathered, GoOnFrom, whos}
-use Rattle.zk_kernel.proofs.Gathering.{served_for, first_together, more_together, all_grew, has_self}
+use Rattle.zk_kernel.specs.Callers.{place_of}
+use Rattle.zk_kernel.specs.Joined.{AreTogether, AreGathered, players_of, numbers_of, left_at, all_noted, all_found}
+use Rattle.zk_kernel.specs.Signals.{looks_at_number}
+use Rattle.zk_kernel.proofs.Gathering.{served_for, own-noted, first_together, more_together}
 use Rattle.zk_kernel.proofs.close.put_together.Goals as goal
 
-pub join_passes-requires : goal.join_passes-requires
-join_passes-requires c =
+pub join_passes-requires-clause-own : goal.join_passes-requires-clause-own
+join_passes-requires-clause-own c =
     let all = c.requires.all in
-    let into = subst (λ (o : Option Passes). AreTogether c.args.cells.now all.0 all.1 o) c.in-Some.is all.3 in
-    record { own = (whos all.1, all.2.who ∷ [], into.stand, served_for c.args.cells.now c.args.other all.2.who all.4.served) }
+    let into = subst (λ (o : Option Passes). AreTogether c.args.cells.now all.0 o) c.in-Some.is all.2 in
+    let who = (place_of all.1).who in
+    (players_of all.0, who ∷ [], into.stand, served_for c.args.cells.now c.args.other who all.4)
 
-pub returns-in-Some-clause-gathered : goal.returns-in-Some-clause-gathered
-returns-in-Some-clause-gathered c = λ s players at together playing.
+pub join_passes-requires-clause-shared : goal.join_passes-requires-clause-shared
+join_passes-requires-clause-shared c =
+    let all = c.requires.all in
+    let into = subst (λ (o : Option Passes). AreTogether c.args.cells.now all.0 o) c.in-Some.is all.2 in
+    let who = (place_of all.1).who in (
+      numbers_of (players_of all.0),
+      who.number ∷ [],
+      left_at (all_noted all.0),
+      left_at c.args.other.notes.items,
+      all_found all.0,
+      looks_at_number c.args.other.signals.items,
+      into.signals,
+      own-noted c.args.cells.now c.args.other who all.4,
+    )
+
+pub returns-in_ok-join_passes-in-Some : goal.returns-in_ok-join_passes-in-Some
+returns-in_ok-join_passes-in-Some c = λ callers x together is served.
     let cells = c.args.cells.now in
-    let into = subst (λ (o : Option Passes). AreTogether cells s players o) c.in-Some.is together in
-    let own = served_for cells c.args.other at.who playing.served in
-    more_together cells s c.in-Some.into c.args.other c.join_passes.new.into players at into playing
-    (c.join_passes.ensures.players (whos players) (at.who ∷ []) into.stand own)
-    (c.join_passes.ensures.first (whos players) (at.who ∷ []) into.stand own)
-    (c.join_passes.ensures.second (whos players) (at.who ∷ []) into.stand own)
+    let other = c.args.other in
+    let into = subst (λ (o : Option Passes). AreTogether cells callers o) c.in-Some.is together in
+    let who = (place_of x).who in
+    let us : List Who = who ∷ [] in
+    let own = served_for cells other who served in
+    let joined = c.in_ok-join_passes-in-Some.ensures in
+    more_together cells c.in-Some.into other c.join_passes.new.into callers x into is
+    (joined.players (players_of callers) us into.stand own)
+    (joined.first (players_of callers) us into.stand own)
+    (joined.second (players_of callers) us into.stand own)
+    joined.notes
+    (joined.signals (numbers_of (players_of callers)) (who.number ∷ []) (left_at (all_noted callers)) (left_at other.notes.items) (all_found callers) (looks_at_number other.signals.items)
+    into.signals (own-noted cells other who served))
 
-pub returns-in-None-clause-gathered : goal.returns-in-None-clause-gathered
-returns-in-None-clause-gathered c = λ s players at together playing.
-    let none : players ≡ [] = subst (λ (o : Option Passes). AreTogether c.args.cells.now s players o) c.in-None.is together in
-    subst (λ (ps : List PlayerPlace). AreGathered c.args.cells.now s (ps ++ at ∷ []) c.args.other) (sym none) (first_together c.args.cells.now s c.args.other at playing)
-
-pub returns-in-Some-clause-earlier : goal.returns-in-Some-clause-earlier
-returns-in-Some-clause-earlier c = λ s players at together playing.
-    let cells = c.args.cells.now in
-    let into = subst (λ (o : Option Passes). AreTogether cells s players o) c.in-Some.is together in
-    let own = served_for cells c.args.other at.who playing.served in
-    subst (λ (o : Option Passes). GoOnFrom (whos players) o c.join_passes.new.into) (sym c.in-Some.is)
-    (c.join_passes.ensures.first (whos players) (at.who ∷ []) into.stand own)
-
-pub returns-in-Some-clause-later : goal.returns-in-Some-clause-later
-returns-in-Some-clause-later c = λ s players at together playing.
-    let cells = c.args.cells.now in
-    let into = subst (λ (o : Option Passes). AreTogether cells s players o) c.in-Some.is together in
-    let own = served_for cells c.args.other at.who playing.served in
-    all_grew (at.who ∷ []) at.who.number (desk_shown c.args.other) (desk_shown c.join_passes.new.into) (has_self at.who)
-    (c.join_passes.ensures.second (whos players) (at.who ∷ []) into.stand own)
-
-pub returns-in-None-clause-earlier : goal.returns-in-None-clause-earlier
-returns-in-None-clause-earlier c = λ s players at together playing.
-    subst (λ (o : Option Passes). GoOnFrom (whos players) o c.args.other) (sym c.in-None.is) tt
-
-pub returns-in-None-clause-later : goal.returns-in-None-clause-later
-returns-in-None-clause-later c = λ s players at together playing. between-none false at.who.number (desk_shown c.args.other)
+pub returns-in-None : goal.returns-in-None
+returns-in-None c = λ callers x together is served.
+    let none : callers ≡ [] = subst (λ (o : Option Passes). AreTogether c.args.cells.now callers o) c.in-None.is together in
+    subst (λ (cs : List Caller). AreGathered c.args.cells.now (cs ++ x ∷ []) c.args.other) (sym none) (first_together c.args.cells.now c.args.other x is served)

@@ -1,7 +1,4 @@
-use Rattle.std.proofs.Common.{rules, Some, false, ◌≡◌, ℕ, ◌+◌, ◌≤◌, List, [], ◌∷◌, ◌++◌, map, reverse, All, vec_len, vec_capacity, sym, ap, subst, ◌∙◌, arith}
-use Rattle.zk_kernel.specs.declared.caller.Caller.{Caller}
-use Rattle.zk_kernel.specs.Callers.{place_of}
-use Rattle.zk_kernel.specs.Dealt.{IsUnplayed}
+use Rattle.std.proofs.Common.{Some, false, arith}
 use Rattle.zk_kernel.proofs.NewCallers.{one-dealt, one-placed}
 use Rattle.zk_kernel.proofs.dealing.deal_all.Goals as goal
 

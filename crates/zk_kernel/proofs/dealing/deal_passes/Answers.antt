@@ -1,3 +1,4 @@
+use Rattle.std.proofs.Common.{refl}
 use Rattle.zk_kernel.proofs.NewPasses.{taken-popped}
 use Rattle.zk_kernel.proofs.dealing.deal_passes.Goals as goal
 
@@ -14,4 +15,7 @@ returns c = record {
   signals = c.in_ok-deal_row-3.ensures;
   chans = c.in_ok-deal_row-4.ensures;
   observers = c.in_ok-deal_row-5.ensures;
+  looked = refl;
+  notes = c.in_ok-with_capacity.ensures.items;
+  capacity = c.in_ok-with_capacity.ensures.capacity;
 }

@@ -1,4 +1,4 @@
-use Rattle.std.proofs.Common.{rules, ◌≡◌, ℕ, ◌+◌, ◌<◌, ◌≤◌, length, List, set, sym, subst, arith}
+use Rattle.std.proofs.Common.{◌+◌, set, sym, subst, arith}
 use Rattle.zk_kernel.proofs.NewPasses.{taken-popped, TakenSoFar, one-taken, all-taken}
 use Rattle.zk_kernel.proofs.dealing.deal_row.Goals as goal
 

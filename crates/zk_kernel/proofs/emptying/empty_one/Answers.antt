@@ -1,6 +1,5 @@
-use Rattle.std.proofs.Common.{rules, ◌≡◌, Bool, true, List, Some, None, Option, All, refl, sym, ap, subst, ◌∙◌}
+use Rattle.std.proofs.Common.{◌≡◌, true, All, sym, subst, ◌∙◌}
 use Rattle.zk_base.specs.Legal.{IsLegal}
-use Rattle.zk_base.specs.declared.ids.Who.{Who}
 use Rattle.zk_turn.specs.Passes.{pass_players, pass_seen}
 use Rattle.zk_turn.specs.Players.{is_by}
 use Rattle.zk_kernel.specs.Joined.{StandsFor}

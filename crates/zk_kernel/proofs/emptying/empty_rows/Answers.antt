@@ -1,4 +1,4 @@
-use Rattle.std.proofs.Common.{rules, ◌≡◌, ◌+◌, ◌<◌, ◌≤◌, ◌++◌, ◌∷◌, [], ℕ, length, Some, Option, List, set, get_or, refl, sym, ap, subst, ◌∙◌, arith}
+use Rattle.std.proofs.Common.{◌+◌, length, set, sym, subst, arith}
 use Rattle.zk_base.specs.Legal.{IsLegal}
 use Rattle.zk_kernel.specs.Joined.{StandsIn}
 use Rattle.zk_kernel.specs.Closed.{IsClosed}

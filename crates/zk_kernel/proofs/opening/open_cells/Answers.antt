@@ -1,4 +1,4 @@
-use Rattle.std.proofs.Common.{◌≡◌, length, sym, ap}
+use Rattle.std.proofs.Common.{length, map, option_map, All, sym, ap, subst, ◌∙◌}
 use Rattle.zk_model_wait.specs.Clock.{clock_machine}
 use Rattle.zk_model_wait.specs.Sem.{sem_machine}
 use Rattle.zk_model_wait.specs.Msgq.{msgq_machine}
@@ -8,9 +8,14 @@ use Rattle.zk_model_bus.specs.Observer.{obs_machine}
 use Rattle.zk_model_bus.specs.Table.{table_machine}
 use Rattle.zk_model_work.specs.Machine.{work_machine}
 use Rattle.zk_objects.specs.Seen.{objects_start}
+use Rattle.zk_poll.specs.Seen.{signal_start}
 use Rattle.zk_time.specs.ClockSeen.{clock_start}
 use Rattle.zk_work.specs.Seen.{work_start}
+use Rattle.zk_kernel.specs.Dealt.{IsBegun}
 use Rattle.zk_kernel.proofs.opening.open_cells.Goals as goal
+
+pub open_signals-requires-clause-begun : goal.open_signals-requires-clause-begun
+open_signals-requires-clause-begun c = subst (All IsBegun) (sym c.deref.ensures.value) c.requires.unused.signals
 
 pub returns-clause-machines : goal.returns-clause-machines
 returns-clause-machines c = λ i. record {
@@ -23,7 +28,7 @@ returns-clause-machines c = λ i. record {
   table_start = objects_start (c.in_ok-table.ensures.given i);
   sems = record { machine = sem_machine; starts = c.in_ok-sems.ensures.starts i };
   msgqs = record { machine = msgq_machine; starts = c.in_ok-msgqs.ensures.starts i };
-  signals = record { machine = signal_machine; starts = c.in_ok-signals.ensures.starts i };
+  signals = record { machine = signal_machine; starts = (c.in_ok-signals.ensures.starts ∙ ap (map (option_map signal_start)) c.deref.ensures.value) i };
   chans = record { machine = chan_machine; starts = c.in_ok-chans.ensures.starts i };
   observers = record { machine = obs_machine; starts = c.in_ok-observers.ensures.starts i };
 }

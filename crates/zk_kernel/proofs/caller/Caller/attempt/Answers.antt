@@ -1,4 +1,4 @@
-use Rattle.std.proofs.Common.{rules, ◌≡◌, ℕ, false, length, Some, Option, refl, sym, ap, subst, ◌∙◌}
+use Rattle.std.proofs.Common.{ℕ, false, length, Option, refl, sym, ap, subst, ◌∙◌}
 use Rattle.zk_base.specs.declared.ids.Who.{Who}
 use Rattle.zk_scenario.specs.Content.{Content}
 use Rattle.zk_worker.specs.Places.{PlayerPlace}
@@ -86,3 +86,10 @@ returns-clause-own g c =
     (ap (λ (a : PlayerPlace). a.who) led ∙ (after-spots k.scenario at c.args.step.now c.in-Some-2.reply).0) was.served (c.attempt-reply.ensures.serves at.who).0
     (player-made false m k.scenario at next c.args.step.now c.in-Some-2.reply (desk_shown old) (desk_shown new) kernel.valid (ap cells_machines c.cells-cells.ensures.cells ∙ kernel.machines)
     was.sound c.requires.ahead made led)
+
+pub returns-clause-who : goal.returns-clause-who
+returns-clause-who g c =
+    let k = c.args.kernel.now in
+    let at = c.args.self.now.player in
+    let led = c.made.ensures.next ∙ ap (λ (s : Content). after s at c.args.step.now c.in-Some-2.reply) c.scenario.ensures.scenario in
+    ap (λ (a : PlayerPlace). a.who) led ∙ (after-spots k.scenario at c.args.step.now c.in-Some-2.reply).0

@@ -1,10 +1,7 @@
-use Rattle.std.proofs.Common.{rules, ◌≡◌, Bool, true, false, not, ◌&&◌, Some, None, Option, Result, refl, sym, ap, subst, ◌∙◌}
-use Rattle.zk_worker.specs.declared.answers.Answer.{Answer}
+use Rattle.std.proofs.Common.{refl, subst, ◌∙◌}
 use Rattle.zk_worker.specs.Follows.{is_dead}
-use Rattle.zk_kernel.specs.declared.stop.Stop.{Stop}
-use Rattle.zk_kernel.specs.Callers.{IsCaller, place_of, is_stopped}
-use Rattle.zk_kernel.specs.Calling.{Moment, moment_of}
-use Rattle.zk_kernel.specs.Within.{IsUnderWay, GoesOrGives}
+use Rattle.zk_kernel.specs.Calling.{moment_of}
+use Rattle.zk_kernel.specs.Within.{GoesOrGives}
 use Rattle.zk_kernel.proofs.UnderWay.{begun, still-open, lives-both}
 use Rattle.zk_kernel.proofs.caller.Caller.call.Goals as goal
 

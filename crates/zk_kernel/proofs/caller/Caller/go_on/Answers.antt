@@ -1,10 +1,9 @@
-use Rattle.std.proofs.Common.{rules, ◌≡◌, false, Ok, Some, None, Option, refl, sym, ap, subst, ◌∙◌}
-use Rattle.std.specs.Prelude.{IfOk}
+use Rattle.std.proofs.Common.{false, Option, sym, subst, ◌∙◌}
 use Rattle.zk_worker.specs.declared.answers.Answer.{Answer}
 use Rattle.zk_worker.specs.declared.playing.Stepped.{Stepped}
 use Rattle.zk_worker.specs.Machines.{machines_of}
 use Rattle.zk_worker.specs.Playing.{StepOutcome}
-use Rattle.zk_kernel.specs.Calling.{Moment, moment_of}
+use Rattle.zk_kernel.specs.Calling.{moment_of}
 use Rattle.zk_kernel.specs.Within.{GoesOrGives}
 use Rattle.zk_kernel.proofs.UnderWay.{GoesOrAnswers, answers-or-not, waited, spent}
 use Rattle.zk_kernel.proofs.caller.Caller.go_on.Goals as goal

@@ -1,9 +1,8 @@
-use Rattle.std.proofs.Common.{rules, ◌≡◌, ℕ, false, List, Option, Ok, Some, None, refl, sym, ap, subst, ◌∙◌}
+use Rattle.std.proofs.Common.{rules, ◌≡◌, ℕ, Ok, refl, subst, arith}
 use Rattle.std.specs.Option.{option_map}
 use Rattle.zk_model_wait.specs.Clock.{clock_machine}
 use Rattle.zk_model_wait.specs.Sem.{sem_machine}
 use Rattle.zk_model_wait.specs.Msgq.{msgq_machine}
-use Rattle.zk_model_wait.specs.Signal.{signal_machine}
 use Rattle.zk_model_bus.specs.Channel.{chan_machine}
 use Rattle.zk_model_bus.specs.Observer.{obs_machine}
 use Rattle.zk_model_bus.specs.Table.{table_machine}
@@ -11,7 +10,6 @@ use Rattle.zk_model_work.specs.Machine.{work_machine}
 use Rattle.zk_model_wait.specs.declared.clock.ClockReply.{ClockReply}
 use Rattle.zk_model_wait.specs.declared.sem.SemReply.{SemReply}
 use Rattle.zk_model_wait.specs.declared.msgq.MsgqReply.{MsgqReply}
-use Rattle.zk_model_wait.specs.declared.signal.SignalReply.{SignalReply}
 use Rattle.zk_model_work.specs.declared.ops.WorkReply.{WorkReply}
 use Rattle.zk_model_bus.specs.declared.table.TableReply.{TableReply}
 use Rattle.zk_model_bus.specs.declared.channel.ChanReply.{ChanReply}
@@ -19,7 +17,6 @@ use Rattle.zk_model_bus.specs.declared.observer.ObsReply.{ObsReply}
 use Rattle.zk_bus.specs.Seen.{chan_start}
 use Rattle.zk_msgq.specs.Seen.{msgq_start}
 use Rattle.zk_objects.specs.Seen.{objects_start}
-use Rattle.zk_poll.specs.Seen.{signal_start}
 use Rattle.zk_sem.specs.Seen.{sem_start}
 use Rattle.zk_subq.specs.Seen.{obs_start}
 use Rattle.zk_time.specs.ClockSeen.{clock_start}
@@ -27,14 +24,17 @@ use Rattle.zk_work.specs.Seen.{work_start}
 use Rattle.zk_turn.specs.Passes.{given_to}
 use Rattle.zk_worker.specs.declared.steps.Step.TheVariants as steps
 use Rattle.zk_worker.specs.declared.steps.StepReply.TheVariants as step_replies
-use Rattle.zk_worker.proofs.Between.{above-work, above-clock, above-table, above-sems, above-msgqs, above-signals, above-chans, above-observers}
-use Rattle.zk_kernel.specs.Desks.{cells_machines, IsServed, desk_shown}
+use Rattle.zk_worker.proofs.Between.{above-work, above-clock, above-table, above-sems, above-msgqs, above-chans, above-observers}
+use Rattle.zk_kernel.specs.Desks.{cells_machines, desk_shown}
 use Rattle.zk_kernel.specs.Seats.{seen_at}
 use Rattle.zk_base.specs.Legal.{IsLegal}
 use Rattle.zk_kernel.specs.Rows.{family, seen_all, AreSeats, VisitedAt}
-use Rattle.zk_kernel.proofs.Attempts.{attempted-one, attempted-many, when-err, looked-item, looked-signal}
-use Rattle.zk_kernel.proofs.Desks.{same-players, grows-work, grows-clock, grows-table, grows-sems, grows-msgqs, grows-signals, grows-chans, grows-observers}
+use Rattle.zk_kernel.proofs.Attempts.{attempted-one, attempted-many, when-err}
+use Rattle.zk_kernel.proofs.Desks.{same-players, grows-work, grows-clock, grows-table, grows-sems, grows-msgqs, grows-chans, grows-observers}
 use Rattle.zk_kernel.proofs.desk.DeskServices.attempt.Goals as goal
+
+pub visit-requires-clause-at : goal.visit-requires-clause-at
+visit-requires-clause-at g c = (c.args.self.now.passes.looked, c.requires.served.work, c.requires.later.looked)
 
 pub visit-requires-clause-later : goal.visit-requires-clause-later
 visit-requires-clause-later g c = above-work (desk_shown c.args.self.now.passes) c.args.who.number c.args.number c.requires.later
@@ -55,6 +55,21 @@ returns-in_ok-made-in-Work-clause-attempted g c =
     (λ h. record old { work = h }) old.work (grows-work c.args.who.number old) (λ h. refl) (λ h r place. tt) (λ h r place. refl)
     (seen_at c.visit.new.seat) made.made _ _ made.ensures.visited c.in-Work.is told
 
+pub returns-in_err-made-in-Work-clause-serves : goal.returns-in_err-made-in-Work-clause-serves
+returns-in_err-made-in-Work-clause-serves g c =
+    let p = c.args.self.now.passes in
+    same-players c.args.self.now.cells.now p (record p { work = c.visit.new.seat }) c.args.who c.requires.served
+    (record { work = c.visit.ensures.at c.args.self.now.passes.looked c.requires.served.work c.requires.later.looked; clock = c.requires.served.clock; table = c.requires.served.table; sems = c.requires.served.sems; msgqs = c.requires.served.msgqs; signals = c.requires.served.signals; chans = c.requires.served.chans; observers = c.requires.served.observers; noted = c.requires.served.noted; capacity = c.requires.served.capacity; number = c.requires.served.number; items = c.requires.served.items })
+
+pub returns-in_ok-made-in-Work-clause-serves : goal.returns-in_ok-made-in-Work-clause-serves
+returns-in_ok-made-in-Work-clause-serves g c =
+    let p = c.args.self.now.passes in
+    same-players c.args.self.now.cells.now p (record p { work = c.visit.new.seat }) c.args.who c.requires.served
+    (record { work = c.visit.ensures.at c.args.self.now.passes.looked c.requires.served.work c.requires.later.looked; clock = c.requires.served.clock; table = c.requires.served.table; sems = c.requires.served.sems; msgqs = c.requires.served.msgqs; signals = c.requires.served.signals; chans = c.requires.served.chans; observers = c.requires.served.observers; noted = c.requires.served.noted; capacity = c.requires.served.capacity; number = c.requires.served.number; items = c.requires.served.items })
+
+pub visit-requires-in-Clock-clause-at : goal.visit-requires-in-Clock-clause-at
+visit-requires-in-Clock-clause-at g c = (0, c.requires.served.clock, omega arith)
+
 pub visit-requires-in-Clock-clause-later : goal.visit-requires-in-Clock-clause-later
 visit-requires-in-Clock-clause-later g c = above-clock (desk_shown c.args.self.now.passes) c.args.who.number c.args.number c.requires.later
 
@@ -73,6 +88,21 @@ returns-in_ok-made-in-Clock-clause-attempted g c =
     attempted-one clock_machine (clock_start (given_to k.clock)) (cells_machines k) c.args.who c.args.number c.in-Clock.op (steps.Clock c.in-Clock.op) step_replies.Clock old
     (λ h. record old { clock = h }) old.clock (grows-clock c.args.who.number old) (λ h. refl) (λ h r place. tt) (λ h r place. refl)
     (seen_at c.visit-in-Clock.new.seat) made.made _ _ made.ensures.visited c.in-Clock.is told
+
+pub returns-in_err-made-in-Clock-clause-serves : goal.returns-in_err-made-in-Clock-clause-serves
+returns-in_err-made-in-Clock-clause-serves g c =
+    let p = c.args.self.now.passes in
+    same-players c.args.self.now.cells.now p (record p { clock = c.visit-in-Clock.new.seat }) c.args.who c.requires.served
+    (record { work = c.requires.served.work; clock = c.visit-in-Clock.ensures.at 0 c.requires.served.clock (omega arith); table = c.requires.served.table; sems = c.requires.served.sems; msgqs = c.requires.served.msgqs; signals = c.requires.served.signals; chans = c.requires.served.chans; observers = c.requires.served.observers; noted = c.requires.served.noted; capacity = c.requires.served.capacity; number = c.requires.served.number; items = c.requires.served.items })
+
+pub returns-in_ok-made-in-Clock-clause-serves : goal.returns-in_ok-made-in-Clock-clause-serves
+returns-in_ok-made-in-Clock-clause-serves g c =
+    let p = c.args.self.now.passes in
+    same-players c.args.self.now.cells.now p (record p { clock = c.visit-in-Clock.new.seat }) c.args.who c.requires.served
+    (record { work = c.requires.served.work; clock = c.visit-in-Clock.ensures.at 0 c.requires.served.clock (omega arith); table = c.requires.served.table; sems = c.requires.served.sems; msgqs = c.requires.served.msgqs; signals = c.requires.served.signals; chans = c.requires.served.chans; observers = c.requires.served.observers; noted = c.requires.served.noted; capacity = c.requires.served.capacity; number = c.requires.served.number; items = c.requires.served.items })
+
+pub visit-requires-in-Table-clause-at : goal.visit-requires-in-Table-clause-at
+visit-requires-in-Table-clause-at g c = (0, c.requires.served.table, omega arith)
 
 pub visit-requires-in-Table-clause-later : goal.visit-requires-in-Table-clause-later
 visit-requires-in-Table-clause-later g c = above-table (desk_shown c.args.self.now.passes) c.args.who.number c.args.number c.requires.later
@@ -93,6 +123,18 @@ returns-in_ok-made-in-Table-clause-attempted g c =
     (λ h. record old { table = h }) old.table (grows-table c.args.who.number old) (λ h. refl) (λ h r place. tt) (λ h r place. refl)
     (seen_at c.visit-in-Table.new.seat) made.made _ _ made.ensures.visited c.in-Table.is told
 
+pub returns-in_err-made-in-Table-clause-serves : goal.returns-in_err-made-in-Table-clause-serves
+returns-in_err-made-in-Table-clause-serves g c =
+    let p = c.args.self.now.passes in
+    same-players c.args.self.now.cells.now p (record p { table = c.visit-in-Table.new.seat }) c.args.who c.requires.served
+    (record { work = c.requires.served.work; clock = c.requires.served.clock; table = c.visit-in-Table.ensures.at 0 c.requires.served.table (omega arith); sems = c.requires.served.sems; msgqs = c.requires.served.msgqs; signals = c.requires.served.signals; chans = c.requires.served.chans; observers = c.requires.served.observers; noted = c.requires.served.noted; capacity = c.requires.served.capacity; number = c.requires.served.number; items = c.requires.served.items })
+
+pub returns-in_ok-made-in-Table-clause-serves : goal.returns-in_ok-made-in-Table-clause-serves
+returns-in_ok-made-in-Table-clause-serves g c =
+    let p = c.args.self.now.passes in
+    same-players c.args.self.now.cells.now p (record p { table = c.visit-in-Table.new.seat }) c.args.who c.requires.served
+    (record { work = c.requires.served.work; clock = c.requires.served.clock; table = c.visit-in-Table.ensures.at 0 c.requires.served.table (omega arith); sems = c.requires.served.sems; msgqs = c.requires.served.msgqs; signals = c.requires.served.signals; chans = c.requires.served.chans; observers = c.requires.served.observers; noted = c.requires.served.noted; capacity = c.requires.served.capacity; number = c.requires.served.number; items = c.requires.served.items })
+
 pub visit_at-requires-clause-later : goal.visit_at-requires-clause-later
 visit_at-requires-clause-later g c = λ h there.
     above-sems (desk_shown c.args.self.now.passes) c.args.who.number c.args.number c.in-Sem.object h there c.requires.later
@@ -107,7 +149,7 @@ pub returns-in_err-made-in-Sem-clause-serves : goal.returns-in_err-made-in-Sem-c
 returns-in_err-made-in-Sem-clause-serves g c =
     let p = c.args.self.now.passes in
     same-players c.args.self.now.cells.now p (record p { sems = c.visit_at.new.seats }) c.args.who c.requires.served
-    (record { work = c.requires.served.work; clock = c.requires.served.clock; table = c.requires.served.table; sems = subst (λ cs. AreSeats (IsLegal sem_machine) sem_start c.args.who cs c.visit_at.new.seats.items) c.deref.ensures.value c.visit_at.ensures.seats; msgqs = c.requires.served.msgqs; signals = c.requires.served.signals; chans = c.requires.served.chans; observers = c.requires.served.observers })
+    (record { work = c.requires.served.work; clock = c.requires.served.clock; table = c.requires.served.table; sems = subst (λ cs. AreSeats (IsLegal sem_machine) sem_start c.args.who cs c.visit_at.new.seats.items) c.deref.ensures.value c.visit_at.ensures.seats; msgqs = c.requires.served.msgqs; signals = c.requires.served.signals; chans = c.requires.served.chans; observers = c.requires.served.observers; noted = c.requires.served.noted; capacity = c.requires.served.capacity; number = c.requires.served.number; items = c.requires.served.items })
 
 pub returns-in_ok-made-in-Sem-clause-attempted : goal.returns-in_ok-made-in-Sem-clause-attempted
 returns-in_ok-made-in-Sem-clause-attempted g c =
@@ -124,7 +166,7 @@ pub returns-in_ok-made-in-Sem-clause-serves : goal.returns-in_ok-made-in-Sem-cla
 returns-in_ok-made-in-Sem-clause-serves g c =
     let p = c.args.self.now.passes in
     same-players c.args.self.now.cells.now p (record p { sems = c.visit_at.new.seats }) c.args.who c.requires.served
-    (record { work = c.requires.served.work; clock = c.requires.served.clock; table = c.requires.served.table; sems = subst (λ cs. AreSeats (IsLegal sem_machine) sem_start c.args.who cs c.visit_at.new.seats.items) c.deref.ensures.value c.visit_at.ensures.seats; msgqs = c.requires.served.msgqs; signals = c.requires.served.signals; chans = c.requires.served.chans; observers = c.requires.served.observers })
+    (record { work = c.requires.served.work; clock = c.requires.served.clock; table = c.requires.served.table; sems = subst (λ cs. AreSeats (IsLegal sem_machine) sem_start c.args.who cs c.visit_at.new.seats.items) c.deref.ensures.value c.visit_at.ensures.seats; msgqs = c.requires.served.msgqs; signals = c.requires.served.signals; chans = c.requires.served.chans; observers = c.requires.served.observers; noted = c.requires.served.noted; capacity = c.requires.served.capacity; number = c.requires.served.number; items = c.requires.served.items })
 
 pub visit_at-requires-in-Msgq-clause-later : goal.visit_at-requires-in-Msgq-clause-later
 visit_at-requires-in-Msgq-clause-later g c = λ h there.
@@ -140,7 +182,7 @@ pub returns-in_err-made-in-Msgq-clause-serves : goal.returns-in_err-made-in-Msgq
 returns-in_err-made-in-Msgq-clause-serves g c =
     let p = c.args.self.now.passes in
     same-players c.args.self.now.cells.now p (record p { msgqs = c.visit_at-in-Msgq.new.seats }) c.args.who c.requires.served
-    (record { work = c.requires.served.work; clock = c.requires.served.clock; table = c.requires.served.table; sems = c.requires.served.sems; msgqs = subst (λ cs. AreSeats (IsLegal msgq_machine) msgq_start c.args.who cs c.visit_at-in-Msgq.new.seats.items) c.deref-in-Msgq.ensures.value c.visit_at-in-Msgq.ensures.seats; signals = c.requires.served.signals; chans = c.requires.served.chans; observers = c.requires.served.observers })
+    (record { work = c.requires.served.work; clock = c.requires.served.clock; table = c.requires.served.table; sems = c.requires.served.sems; msgqs = subst (λ cs. AreSeats (IsLegal msgq_machine) msgq_start c.args.who cs c.visit_at-in-Msgq.new.seats.items) c.deref-in-Msgq.ensures.value c.visit_at-in-Msgq.ensures.seats; signals = c.requires.served.signals; chans = c.requires.served.chans; observers = c.requires.served.observers; noted = c.requires.served.noted; capacity = c.requires.served.capacity; number = c.requires.served.number; items = c.requires.served.items })
 
 pub returns-in_ok-made-in-Msgq-clause-attempted : goal.returns-in_ok-made-in-Msgq-clause-attempted
 returns-in_ok-made-in-Msgq-clause-attempted g c =
@@ -157,40 +199,7 @@ pub returns-in_ok-made-in-Msgq-clause-serves : goal.returns-in_ok-made-in-Msgq-c
 returns-in_ok-made-in-Msgq-clause-serves g c =
     let p = c.args.self.now.passes in
     same-players c.args.self.now.cells.now p (record p { msgqs = c.visit_at-in-Msgq.new.seats }) c.args.who c.requires.served
-    (record { work = c.requires.served.work; clock = c.requires.served.clock; table = c.requires.served.table; sems = c.requires.served.sems; msgqs = subst (λ cs. AreSeats (IsLegal msgq_machine) msgq_start c.args.who cs c.visit_at-in-Msgq.new.seats.items) c.deref-in-Msgq.ensures.value c.visit_at-in-Msgq.ensures.seats; signals = c.requires.served.signals; chans = c.requires.served.chans; observers = c.requires.served.observers })
-
-pub visit_at-requires-in-Signal-clause-later : goal.visit_at-requires-in-Signal-clause-later
-visit_at-requires-in-Signal-clause-later g c = λ h there.
-    above-signals (desk_shown c.args.self.now.passes) c.args.who.number c.args.number c.in-Signal.object h there c.requires.later
-
-pub returns-in_err-made-in-Signal-clause-attempted : goal.returns-in_err-made-in-Signal-clause-attempted
-returns-in_err-made-in-Signal-clause-attempted g c =
-    let p = c.args.self.now.passes in
-    when-err (cells_machines c.args.self.now.cells.now) c.args.who c.args.number c.args.step.now (desk_shown p) (desk_shown (record p { signals = c.visit_at-in-Signal.new.seats })) c.from_residual-in_err-made-in-Signal.result c.from_residual-in_err-made-in-Signal.ensures.0
-    (grows-signals c.args.who.number (desk_shown p) (seen_all c.visit_at-in-Signal.new.seats.items) c.in_err-made-in-Signal.ensures.visited)
-
-pub returns-in_err-made-in-Signal-clause-serves : goal.returns-in_err-made-in-Signal-clause-serves
-returns-in_err-made-in-Signal-clause-serves g c =
-    let p = c.args.self.now.passes in
-    same-players c.args.self.now.cells.now p (record p { signals = c.visit_at-in-Signal.new.seats }) c.args.who c.requires.served
-    (record { work = c.requires.served.work; clock = c.requires.served.clock; table = c.requires.served.table; sems = c.requires.served.sems; msgqs = c.requires.served.msgqs; signals = subst (λ cs. AreSeats (IsLegal signal_machine) signal_start c.args.who cs c.visit_at-in-Signal.new.seats.items) c.deref-in-Signal.ensures.value c.visit_at-in-Signal.ensures.seats; chans = c.requires.served.chans; observers = c.requires.served.observers })
-
-pub returns-in_ok-made-in-Signal-clause-attempted : goal.returns-in_ok-made-in-Signal-clause-attempted
-returns-in_ok-made-in-Signal-clause-attempted g c =
-    let k = c.args.self.now.cells.now in
-    let old = desk_shown c.args.self.now.passes in
-    let object = c.in-Signal.object in
-    let made = c.in_ok-made-in-Signal in
-    let told : option_map (λ (m : SignalReply × ℕ). step_replies.Signal object m.0 m.1) made.made ≡ c.map-in-Signal.result = search rules in
-    attempted-many (family signal_machine signal_start k.signals.items) (cells_machines k) c.args.who c.args.number object c.in-Signal.op (steps.Signal object c.in-Signal.op) step_replies.Signal old
-    (λ hs. record old { signals = hs }) old.signals (grows-signals c.args.who.number old) (λ hs. refl) (λ hs r place. tt) (λ hs r place. refl)
-    (seen_all c.visit_at-in-Signal.new.seats.items) made.made _ _ (subst (λ cs. VisitedAt (family signal_machine signal_start cs) c.args.who c.args.number object c.in-Signal.op old.signals (seen_all c.visit_at-in-Signal.new.seats.items) (Ok made.made)) c.deref-in-Signal.ensures.value made.ensures.visited) c.in-Signal.is told
-
-pub returns-in_ok-made-in-Signal-clause-serves : goal.returns-in_ok-made-in-Signal-clause-serves
-returns-in_ok-made-in-Signal-clause-serves g c =
-    let p = c.args.self.now.passes in
-    same-players c.args.self.now.cells.now p (record p { signals = c.visit_at-in-Signal.new.seats }) c.args.who c.requires.served
-    (record { work = c.requires.served.work; clock = c.requires.served.clock; table = c.requires.served.table; sems = c.requires.served.sems; msgqs = c.requires.served.msgqs; signals = subst (λ cs. AreSeats (IsLegal signal_machine) signal_start c.args.who cs c.visit_at-in-Signal.new.seats.items) c.deref-in-Signal.ensures.value c.visit_at-in-Signal.ensures.seats; chans = c.requires.served.chans; observers = c.requires.served.observers })
+    (record { work = c.requires.served.work; clock = c.requires.served.clock; table = c.requires.served.table; sems = c.requires.served.sems; msgqs = subst (λ cs. AreSeats (IsLegal msgq_machine) msgq_start c.args.who cs c.visit_at-in-Msgq.new.seats.items) c.deref-in-Msgq.ensures.value c.visit_at-in-Msgq.ensures.seats; signals = c.requires.served.signals; chans = c.requires.served.chans; observers = c.requires.served.observers; noted = c.requires.served.noted; capacity = c.requires.served.capacity; number = c.requires.served.number; items = c.requires.served.items })
 
 pub visit_at-requires-in-Chan-clause-later : goal.visit_at-requires-in-Chan-clause-later
 visit_at-requires-in-Chan-clause-later g c = λ h there.
@@ -206,7 +215,7 @@ pub returns-in_err-made-in-Chan-clause-serves : goal.returns-in_err-made-in-Chan
 returns-in_err-made-in-Chan-clause-serves g c =
     let p = c.args.self.now.passes in
     same-players c.args.self.now.cells.now p (record p { chans = c.visit_at-in-Chan.new.seats }) c.args.who c.requires.served
-    (record { work = c.requires.served.work; clock = c.requires.served.clock; table = c.requires.served.table; sems = c.requires.served.sems; msgqs = c.requires.served.msgqs; signals = c.requires.served.signals; chans = subst (λ cs. AreSeats (IsLegal chan_machine) chan_start c.args.who cs c.visit_at-in-Chan.new.seats.items) c.deref-in-Chan.ensures.value c.visit_at-in-Chan.ensures.seats; observers = c.requires.served.observers })
+    (record { work = c.requires.served.work; clock = c.requires.served.clock; table = c.requires.served.table; sems = c.requires.served.sems; msgqs = c.requires.served.msgqs; signals = c.requires.served.signals; chans = subst (λ cs. AreSeats (IsLegal chan_machine) chan_start c.args.who cs c.visit_at-in-Chan.new.seats.items) c.deref-in-Chan.ensures.value c.visit_at-in-Chan.ensures.seats; observers = c.requires.served.observers; noted = c.requires.served.noted; capacity = c.requires.served.capacity; number = c.requires.served.number; items = c.requires.served.items })
 
 pub returns-in_ok-made-in-Chan-clause-attempted : goal.returns-in_ok-made-in-Chan-clause-attempted
 returns-in_ok-made-in-Chan-clause-attempted g c =
@@ -223,7 +232,7 @@ pub returns-in_ok-made-in-Chan-clause-serves : goal.returns-in_ok-made-in-Chan-c
 returns-in_ok-made-in-Chan-clause-serves g c =
     let p = c.args.self.now.passes in
     same-players c.args.self.now.cells.now p (record p { chans = c.visit_at-in-Chan.new.seats }) c.args.who c.requires.served
-    (record { work = c.requires.served.work; clock = c.requires.served.clock; table = c.requires.served.table; sems = c.requires.served.sems; msgqs = c.requires.served.msgqs; signals = c.requires.served.signals; chans = subst (λ cs. AreSeats (IsLegal chan_machine) chan_start c.args.who cs c.visit_at-in-Chan.new.seats.items) c.deref-in-Chan.ensures.value c.visit_at-in-Chan.ensures.seats; observers = c.requires.served.observers })
+    (record { work = c.requires.served.work; clock = c.requires.served.clock; table = c.requires.served.table; sems = c.requires.served.sems; msgqs = c.requires.served.msgqs; signals = c.requires.served.signals; chans = subst (λ cs. AreSeats (IsLegal chan_machine) chan_start c.args.who cs c.visit_at-in-Chan.new.seats.items) c.deref-in-Chan.ensures.value c.visit_at-in-Chan.ensures.seats; observers = c.requires.served.observers; noted = c.requires.served.noted; capacity = c.requires.served.capacity; number = c.requires.served.number; items = c.requires.served.items })
 
 pub visit_at-requires-in-Obs-clause-later : goal.visit_at-requires-in-Obs-clause-later
 visit_at-requires-in-Obs-clause-later g c = λ h there.
@@ -239,7 +248,7 @@ pub returns-in_err-made-in-Obs-clause-serves : goal.returns-in_err-made-in-Obs-c
 returns-in_err-made-in-Obs-clause-serves g c =
     let p = c.args.self.now.passes in
     same-players c.args.self.now.cells.now p (record p { observers = c.visit_at-in-Obs.new.seats }) c.args.who c.requires.served
-    (record { work = c.requires.served.work; clock = c.requires.served.clock; table = c.requires.served.table; sems = c.requires.served.sems; msgqs = c.requires.served.msgqs; signals = c.requires.served.signals; chans = c.requires.served.chans; observers = subst (λ cs. AreSeats (IsLegal obs_machine) obs_start c.args.who cs c.visit_at-in-Obs.new.seats.items) c.deref-in-Obs.ensures.value c.visit_at-in-Obs.ensures.seats })
+    (record { work = c.requires.served.work; clock = c.requires.served.clock; table = c.requires.served.table; sems = c.requires.served.sems; msgqs = c.requires.served.msgqs; signals = c.requires.served.signals; chans = c.requires.served.chans; observers = subst (λ cs. AreSeats (IsLegal obs_machine) obs_start c.args.who cs c.visit_at-in-Obs.new.seats.items) c.deref-in-Obs.ensures.value c.visit_at-in-Obs.ensures.seats; noted = c.requires.served.noted; capacity = c.requires.served.capacity; number = c.requires.served.number; items = c.requires.served.items })
 
 pub returns-in_ok-made-in-Obs-clause-attempted : goal.returns-in_ok-made-in-Obs-clause-attempted
 returns-in_ok-made-in-Obs-clause-attempted g c =
@@ -256,29 +265,8 @@ pub returns-in_ok-made-in-Obs-clause-serves : goal.returns-in_ok-made-in-Obs-cla
 returns-in_ok-made-in-Obs-clause-serves g c =
     let p = c.args.self.now.passes in
     same-players c.args.self.now.cells.now p (record p { observers = c.visit_at-in-Obs.new.seats }) c.args.who c.requires.served
-    (record { work = c.requires.served.work; clock = c.requires.served.clock; table = c.requires.served.table; sems = c.requires.served.sems; msgqs = c.requires.served.msgqs; signals = c.requires.served.signals; chans = c.requires.served.chans; observers = subst (λ cs. AreSeats (IsLegal obs_machine) obs_start c.args.who cs c.visit_at-in-Obs.new.seats.items) c.deref-in-Obs.ensures.value c.visit_at-in-Obs.ensures.seats })
+    (record { work = c.requires.served.work; clock = c.requires.served.clock; table = c.requires.served.table; sems = c.requires.served.sems; msgqs = c.requires.served.msgqs; signals = c.requires.served.signals; chans = c.requires.served.chans; observers = subst (λ cs. AreSeats (IsLegal obs_machine) obs_start c.args.who cs c.visit_at-in-Obs.new.seats.items) c.deref-in-Obs.ensures.value c.visit_at-in-Obs.ensures.seats; noted = c.requires.served.noted; capacity = c.requires.served.capacity; number = c.requires.served.number; items = c.requires.served.items })
 
-pub look-word-requires-clause-later : goal.look-word-requires-clause-later
-look-word-requires-clause-later g c = above-work (desk_shown c.args.self.now.passes) c.args.who.number c.args.number c.requires.later
-
-pub see_at-seen-requires-clause-later : goal.see_at-seen-requires-clause-later
-see_at-seen-requires-clause-later g c = λ h there.
-    above-signals (desk_shown c.args.self.now.passes) c.args.who.number c.args.number c.in-LookSignal.object h there c.requires.later
-
-pub returns-in-LookItem-clause-attempted : goal.returns-in-LookItem-clause-attempted
-returns-in-LookItem-clause-attempted g c =
-    let k = c.args.self.now.cells.now in
-    looked-item k c.args.self.now.passes c.args.who c.args.number c.in-LookItem.object c.item_at-item.result c.look-word.result.0 c.look-word.result.1 _ c.look-word.new.seat c.look-word.ensures.grew
-    c.item_at-item.ensures (rw c.in-LookItem.is at c.requires.range) c.look-word.ensures.word c.look-word.ensures.place c.in-LookItem.is
-
-pub returns-in-LookSignal-clause-attempted : goal.returns-in-LookSignal-clause-attempted
-returns-in-LookSignal-clause-attempted g c =
-    let old = desk_shown c.args.self.now.passes in
-    looked-signal (cells_machines c.args.self.now.cells.now) c.args.who c.args.number c.in-LookSignal.object c.in-LookSignal.must old refl (seen_all c.see_at-seen.new.seats.items) c.see_at-seen.result _ c.told.result
-    c.see_at-seen.ensures.seen c.told.ensures c.in-LookSignal.is
-
-pub returns-in-LookSignal-clause-serves : goal.returns-in-LookSignal-clause-serves
-returns-in-LookSignal-clause-serves g c =
-    let p = c.args.self.now.passes in
-    same-players c.args.self.now.cells.now p (record p { signals = c.see_at-seen.new.seats }) c.args.who c.requires.served
-    (record { work = c.requires.served.work; clock = c.requires.served.clock; table = c.requires.served.table; sems = c.requires.served.sems; msgqs = c.requires.served.msgqs; signals = subst (λ cs. AreSeats (IsLegal signal_machine) signal_start c.args.who cs c.see_at-seen.new.seats.items) c.deref-in-LookSignal.ensures.value c.see_at-seen.ensures.seats; chans = c.requires.served.chans; observers = c.requires.served.observers })
+pub returns-in-Signal-clause-serves : goal.returns-in-Signal-clause-serves
+returns-in-Signal-clause-serves g c =
+    same-players c.args.self.now.cells.now c.args.self.now.passes c.quick_attempt.new.passes c.args.who c.requires.served c.quick_attempt.ensures.served

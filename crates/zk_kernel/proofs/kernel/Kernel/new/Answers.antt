@@ -1,4 +1,4 @@
-use Rattle.std.proofs.Common.{◌≡◌, ◌<◌, List, length, refl, sym, ap, subst, ◌∙◌}
+use Rattle.std.proofs.Common.{◌<◌, List, length, refl, sym, ap, subst, ◌∙◌}
 use Rattle.zk_base.specs.declared.ids.Who.{Who}
 use Rattle.zk_scenario.specs.Content.{Content}
 use Rattle.zk_scenario.specs.Players.{players}
@@ -6,12 +6,12 @@ use Rattle.zk_kernel.specs.Dealt.{AreUndealt}
 use Rattle.zk_kernel.specs.Joined.{whos}
 use Rattle.zk_kernel.specs.Kernels.{Shared}
 use Rattle.zk_kernel.specs.Opened.{AreNewCallers}
-use Rattle.zk_kernel.proofs.NewCallers.{ArePlayers, unused-all, whos-differ, whos-few, made-for, callers-new}
+use Rattle.zk_kernel.proofs.NewCallers.{unused-all, whos-differ, whos-few, made-for, callers-new}
 use Rattle.zk_kernel.proofs.kernel.Kernel.new.Goals as goal
 
 pub open_cells-requires-clause-unused : goal.open_cells-requires-clause-unused
 open_cells-requires-clause-unused c =
-    unused-all c.in_ok-services.services c.in_ok-own.own.decls c.in_ok-services.ensures.shown
+    unused-all c.in_ok-services.services c.in_ok-own.own c.in_ok-services.ensures.machines c.in_ok-services.ensures.shown
 
 pub open_cells-requires-clause-few : goal.open_cells-requires-clause-few
 open_cells-requires-clause-few c =
@@ -38,7 +38,7 @@ returns-clause-callers c =
     let known = c.deref-2.ensures.value ∙ c.in_ok-whos.ensures ∙ ap whos c.deref.ensures.value in
     let callers = c.in_ok-callers.callers.items in
     subst (λ (k : Shared). AreNewCallers k callers) (sym c.of.ensures)
-    (callers-new (record { cells = cells; scenario = own }) (length (players own.decls)) callers
+    (callers-new (record { cells = cells; scenario = own }) (length (players own.decls)) callers c.in_ok-services.ensures.valid
     (c.in_ok-cells.ensures.machines ∙ c.in_ok-services.ensures.machines) refl
     (c.in_ok-callers.ensures.players ∙ c.in_ok-players.ensures)
     (c.in_ok-callers.ensures.new cells

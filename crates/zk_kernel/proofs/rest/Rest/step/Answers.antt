@@ -1,10 +1,10 @@
-use Rattle.std.proofs.Common.{rules, ◌≡◌, ◌-◌, ◌^◌, ℕ, true, Some, length, set, refl, sym, ap, subst, ◌∙◌, arith}
+use Rattle.std.proofs.Common.{◌≡◌, ◌-◌, ◌^◌, true, Some, length, set, refl, sym, ap, subst, ◌∙◌, arith}
 use Rattle.std.specs.Prelude.{IfOk}
 use Rattle.std.specs.List.{slice_get}
 use Rattle.std.proofs.lemmas.Option.{slice_get_read}
 use Rattle.zk_services.specs.Alone.{plain_machines, plain_shown}
 use Rattle.zk_worker.specs.Attempt.{Counts}
-use Rattle.zk_worker.specs.Machines.{Machines, machines_of}
+use Rattle.zk_worker.specs.Machines.{Machines}
 use Rattle.zk_worker.specs.Playing.{StepOutcome}
 use Rattle.zk_worker.specs.Right.{LooksRight}
 use Rattle.zk_world.specs.World.{world}
