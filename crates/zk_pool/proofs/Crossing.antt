@@ -26,9 +26,9 @@ snapshot_send T = owning_send (snapshot.the_type T) (search sendable, tt) (λ d.
 snapshot_sync : (T : RattleType) → IsSync (snapshot.the_row T)
 snapshot_sync T = record { shared = λ d b o κ q. part_keyless (snapshot.the_row T) (snapshot_send T) q d b o }
 
--- a pool may be shared where its items may be sent and shared
-pub pool_sync : (T H : RattleType) (g : Ghosts T.Denot H.Denot) → IsSend T → IsSync T → IsSync (pool.the_row T H g)
-pool_sync T H g send sync = recorded_sync _ _ _ (pool.the_type T H g).to_one (struct_sync (shape (pool.the_type T H g)) (
+-- a pool may be shared where its items may be sent
+pub pool_sync : (T H : RattleType) (g : Ghosts T.Denot H.Denot) → IsSend T → IsSync (pool.the_row T H g)
+pool_sync T H g send = recorded_sync _ _ _ (pool.the_type T H g).to_one (struct_sync (shape (pool.the_type T H g)) (
   search (sendable, option_send, shared.the_sync, lease.the_sync, heap.sync, heap.send, heap.frees) depth 24,
-  (heap.Vec-sync T sync, (search sendable depth 8, (search snapshot_sync, tt))),
+  (search sendable depth 8, (search snapshot_sync, tt)),
 ))

@@ -1,4 +1,4 @@
-mod Counts
+pub mod Counts
 pub mod Crossing
 mod Dealing
 mod Filling

@@ -1,12 +1,17 @@
 -- What a contract sees of a pool and of a hand.
-use Rattle.std.specs.Prelude.{◌≡◌, ℕ, Option, All, List, [], ◌∷◌, length, map}
+use Rattle.std.specs.Prelude.{◌≡◌, ℕ, Option, All, List, [], ◌∷◌, length, map, vec_capacity}
 use Rattle.std.specs.declared.option.Option.TheVariants.{Some, None}
 use Rattle.crossbeam_queue.specs.Passes.{view, IsPassOf}
 use Rattle.zk_pool.specs.declared.hand.Hand.{Hand}
 use Rattle.zk_pool.specs.declared.pool.Pool.{Pool}
+use Rattle.zk_pool.specs.declared.room.Room.{Room}
 use Rattle.zk_pool.specs.declared.views.View.{View}
 use Rattle.zk_pool.specs.Counts.{tally}
 use Rattle.zk_pool.specs.Views.{resting}
+
+-- how many items there is room for
+abbrev pub room_size : {T : Type 0} → Room T → ℕ
+room_size room = vec_capacity room.items
 
 module _ {T H : Type 0} where
   -- the numbers that the hand holds

@@ -1,12 +1,13 @@
 ghost use Rattle.std.specs.Prelude.{◌≡◌, ℕ, ◌<◌, ◌≤◌, [], length, map, All, vec_capacity};
 ghost use Rattle.crossbeam_queue.specs.Passes.{view, IsPassOf, ruled_capacity};
 ghost use Rattle.zk_pool.specs.Counts.{tally};
-ghost use Rattle.zk_pool.specs.Hands.{IsHandOf, StandsFor, hand_held, pool_hands, pool_home, pool_items, pool_numbers};
+ghost use Rattle.zk_pool.specs.Hands.{IsHandOf, StandsFor, hand_held, pool_hands, pool_home, pool_items, pool_numbers, room_size};
 ghost use Rattle.zk_pool.specs.Rule.{Suits};
 
 use crate::hand::Hand;
 use crate::numbered::Numbered;
 use crate::pool::Pool;
+use crate::room::Room;
 use crate::rule::{Merge, PoolRule, Take};
 use crate::views::View;
 use crossbeam_queue::{Pass, RuledArrayQueue};
@@ -41,11 +42,14 @@ fn drain<T: Numbered, R: Wait>(
 }
 
 impl<T: Numbered> Pool<T> {
-    /// Takes the pool apart and gives its items back, for all the hands that were made, none of which holds one.
-    pub fn close<R: Wait>(self, rt: &R, hands: Vec<Hand<T>>) -> Vec<T>
+    /// Takes the pool apart and gives its items back, for all the hands that were made, none of which holds one, and room for all.
+    ///
+    /// It takes no memory.
+    pub fn close<R: Wait>(self, rt: &R, hands: Vec<Hand<T>>, room: Room<T>) -> Vec<T>
         requires own { All (IsHandOf T.number T.home self) hands.items }
         requires all { length hands.items ≡ pool_hands self }
         requires none { All (λ hand. hand_held hand ≡ []) hands.items }
+        requires room { length (pool_items self) ≤ room_size room }
 
         // One item of each number, each of which suits the pool.
         ensures once { (n : ℕ) → tally n (map T.number result.items) ≡ tally n (pool_numbers T.number self) }
@@ -55,11 +59,11 @@ impl<T: Numbered> Pool<T> {
         let pass = self.gather(hands);
         let Pool {
             queue,
-            room,
             hands: _,
             given: _,
         } = self;
-        drain(rt, &queue, pass, room)
+        let Room { items } = room;
+        drain(rt, &queue, pass, items)
     }
 
     // The pass for all hands.

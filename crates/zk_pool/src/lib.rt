@@ -7,11 +7,13 @@ mod moves;
 mod numbered;
 mod opening;
 mod pool;
+mod room;
 mod rule;
 mod views;
 
 pub use hand::Hand;
 pub use numbered::Numbered;
 pub use pool::Pool;
+pub use room::Room;
 pub use rule::{Deal, Fill, FindNothing, Give, Grow, Merge, PoolRule, Take};
 pub use views::View;

@@ -1,12 +1,13 @@
 ghost use Rattle.std.specs.Prelude.{◌≡◌, ◌<◌, ◌≤◌, [], length, reverse, All, IfOk, vec_capacity};
 ghost use Rattle.crossbeam_queue.specs.Passes.{view, IsPassOf};
-ghost use Rattle.zk_pool.specs.Hands.{HaveOneHome, IsNewHand, home_in, pool_hands, pool_items, undealt};
+ghost use Rattle.zk_pool.specs.Hands.{HaveOneHome, IsNewHand, home_in, pool_hands, pool_items, room_size, undealt};
 ghost use Rattle.zk_pool.specs.Rule.{Suits};
 ghost use Rattle.zk_pool.specs.Views.{opened};
 
 use crate::hand::Hand;
 use crate::numbered::Numbered;
 use crate::pool::Pool;
+use crate::room::Room;
 use crate::rule::{Deal, Fill, Grow, PoolRule};
 use crate::views::View;
 use crossbeam_queue::{Pass, RuledArrayQueue};
@@ -37,14 +38,14 @@ fn fill<T: Numbered>(
 }
 
 impl<T: Numbered> Pool<T> {
-    /// A pool of these items, which come out in their order, and so many hands.
+    /// A pool of these items, which come out in their order, so many hands, and the room for `close`.
     ///
     /// All items are of one home. After want of memory they are dropped.
     pub fn new(
         alloc: Global,
         mut items: Vec<T>,
         hands: u32,
-    ) -> Result<(Pool<T>, Vec<Hand<T>>), NoMemory>
+    ) -> Result<(Pool<T>, Vec<Hand<T>>, Room<T>), NoMemory>
         requires items { 0 < length items.items }
         requires hands { 0 < hands }
         requires home { HaveOneHome T.home items.items }
@@ -52,6 +53,7 @@ impl<T: Numbered> Pool<T> {
         ensures pool { IfOk result (λ made. (pool_items made.0 ≡ items.items) × (pool_hands made.0 ≡ hands)) }
         ensures hands { IfOk result (λ made. All (IsNewHand T.number T.home made.0) made.1.items) }
         ensures count { IfOk result (λ made. length made.1.items ≡ hands) }
+        ensures room { IfOk result (λ made. length items.items ≤ room_size made.2) }
     {
         let given = Snapshot::of(&items);
         let mut made = Vec::with_capacity(alloc, hands as usize)?;
@@ -63,13 +65,12 @@ impl<T: Numbered> Pool<T> {
         fill(&queue, &mut pass, &mut items)?;
         let pool = Pool {
             queue,
-            room: items,
             hands,
             given,
         };
         pool.grow(&mut pass);
         pool.deal_all(pass, &mut made);
-        Ok((pool, made))
+        Ok((pool, made, Room { items }))
     }
 
     // Makes of a pass for one hand the pass for all.

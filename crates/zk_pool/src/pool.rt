@@ -1,4 +1,4 @@
-ghost use Rattle.std.specs.Prelude.{◌≡◌, ◌<◌, ◌≤◌, [], length, vec_capacity};
+ghost use Rattle.std.specs.Prelude.{◌≡◌, ◌<◌, length};
 ghost use Rattle.crossbeam_queue.specs.Passes.{ruled_capacity};
 
 use crate::numbered::Numbered;
@@ -12,12 +12,10 @@ use std::snapshot::Snapshot;
 /// Every call of a pool takes hands of that pool alone. A pool is shared by reference; `close` takes it apart.
 #[derive(Drop)]
 pub struct Pool<T: Numbered> {
-    // Each item has a place in the queue, and at the end one in the room.
+    // Each item has a place in the queue.
     pub(crate) queue: RuledArrayQueue<T, View<T::Home>, PoolRule<T>>,
-    pub(crate) room: Vec<T>,
     pub(crate) hands: u32,
     pub(crate) given: Snapshot<Vec<T>>,
     ghost fits: { ruled_capacity queue ≡ length given.value.items },
-    ghost roomy: { (room.items ≡ []) × (length given.value.items ≤ vec_capacity room) },
     ghost some_hands: { 0 < hands },
 }

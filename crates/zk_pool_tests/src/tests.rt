@@ -1,5 +1,5 @@
-ghost use Rattle.std.specs.Prelude.{◌≡◌, ◌<◌, length, All};
-ghost use Rattle.zk_pool.specs.Hands.{IsNewHand, pool_hands};
+ghost use Rattle.std.specs.Prelude.{◌≡◌, ◌<◌, ◌≤◌, length, All};
+ghost use Rattle.zk_pool.specs.Hands.{IsNewHand, pool_hands, pool_items, room_size};
 ghost use Rattle.zk_pool_tests.specs.Juggling.{ball_color, ball_number, IsFree};
 
 use crate::{Ball, balls, juggled_by_four};
@@ -9,7 +9,7 @@ use std::sync::Wait;
 use std::test::Fail;
 use std::thread::Threads;
 use zk_base::{NoMemory, push_within};
-use zk_pool::{Hand, Pool};
+use zk_pool::{Hand, Pool, Room};
 
 /// Two hands of one pool.
 type TwoHands = (Hand<Ball>, Hand<Ball>);
@@ -35,17 +35,19 @@ fn closed_by_two<R: Wait>(
     rt: &R,
     alloc: Global,
     pool: Pool<Ball>,
-    first: Hand<Ball>,
-    second: Hand<Ball>,
+    hands: TwoHands,
+    room: Room<Ball>,
 ) -> Result<Vec<Ball>, NoMemory>
-    requires first { IsFree ball_number ball_color pool first }
-    requires second { IsFree ball_number ball_color pool second }
+    requires first { IsFree ball_number ball_color pool hands.0 }
+    requires second { IsFree ball_number ball_color pool hands.1 }
     requires two { pool_hands pool ≡ 2 }
+    requires room { length (pool_items pool) ≤ room_size room }
 {
+    let (first, second) = hands;
     let mut hands = Vec::with_capacity(alloc, 2)?;
     push_within(&mut hands, first);
     push_within(&mut hands, second);
-    Ok(pool.close(rt, hands))
+    Ok(pool.close(rt, hands, room))
 }
 
 /// The four hands of a new pool.
@@ -66,10 +68,12 @@ fn closed_by_four<R: Wait>(
     alloc: Global,
     pool: Pool<Ball>,
     hands: (TwoHands, TwoHands),
+    room: Room<Ball>,
 ) -> Result<Vec<Ball>, NoMemory>
     requires first { IsFree ball_number ball_color pool hands.0.0 × IsFree ball_number ball_color pool hands.0.1 }
     requires second { IsFree ball_number ball_color pool hands.1.0 × IsFree ball_number ball_color pool hands.1.1 }
     requires four { pool_hands pool ≡ 4 }
+    requires room { length (pool_items pool) ≤ room_size room }
 {
     let ((a, b), (c, d)) = hands;
     let mut hands = Vec::with_capacity(alloc, 4)?;
@@ -77,7 +81,7 @@ fn closed_by_four<R: Wait>(
     push_within(&mut hands, b);
     push_within(&mut hands, c);
     push_within(&mut hands, d);
-    Ok(pool.close(rt, hands))
+    Ok(pool.close(rt, hands, room))
 }
 
 /// The balls when four threads have juggled them, each so many times, and how often a thread caught one.
@@ -89,10 +93,10 @@ fn juggled<R: Threads + Wait + Sync>(
 ) -> Result<(Vec<Ball>, u64), NoMemory>
     requires { 0 < count }
 {
-    let (pool, hands) = Pool::new(alloc, balls(alloc, count)?, 4)?;
+    let (pool, hands, room) = Pool::new(alloc, balls(alloc, count)?, 4)?;
     let hands = four_hands(&pool, hands);
     let (hands, caught) = juggled_by_four(rt, &pool, hands, times);
-    let back = closed_by_four(rt, alloc, pool, hands)?;
+    let back = closed_by_four(rt, alloc, pool, hands, room)?;
     Ok((back, caught))
 }
 
@@ -122,7 +126,7 @@ fn are_all(balls: &[Ball], count: u32) -> bool {
 
 #[test]
 fn three_balls_and_two_hands(rt: HostRuntime) -> Result<(), Fail> {
-    let (pool, hands) = Pool::new(rt.alloc(), balls(rt.alloc(), 3)?, 2)?;
+    let (pool, hands, room) = Pool::new(rt.alloc(), balls(rt.alloc(), 3)?, 2)?;
     let (mut first, mut second) = two_hands(&pool, hands);
     let Some(a) = pool.take(&rt, &mut first) else {
         panic!(rt; "a ball is in the pool");
@@ -141,7 +145,7 @@ fn three_balls_and_two_hands(rt: HostRuntime) -> Result<(), Fail> {
     pool.give(&rt, &mut first, a);
     pool.give(&rt, &mut first, b);
     pool.give(&rt, &mut second, c);
-    let back = closed_by_two(&rt, rt.alloc(), pool, first, second)?;
+    let back = closed_by_two(&rt, rt.alloc(), pool, (first, second), room)?;
     assert!(rt; are_all(&back, 3));
     Ok(())
 }
@@ -165,7 +169,7 @@ fn more_threads_than_balls(rt: HostRuntime) -> Result<(), Fail> {
 
 #[test]
 fn a_hand_that_finds_nothing(rt: HostRuntime) -> Result<(), Fail> {
-    let (pool, hands) = Pool::new(rt.alloc(), balls(rt.alloc(), 1)?, 2)?;
+    let (pool, hands, room) = Pool::new(rt.alloc(), balls(rt.alloc(), 1)?, 2)?;
     let (mut first, mut second) = two_hands(&pool, hands);
     let Some(ball) = pool.take(&rt, &mut first) else {
         panic!(rt; "the ball is in the pool");
@@ -183,7 +187,7 @@ fn a_hand_that_finds_nothing(rt: HostRuntime) -> Result<(), Fail> {
         panic!(rt; "the ball is in the pool again");
     };
     pool.give(&rt, &mut second, ball);
-    let back = closed_by_two(&rt, rt.alloc(), pool, first, second)?;
+    let back = closed_by_two(&rt, rt.alloc(), pool, (first, second), room)?;
     assert!(rt; are_all(&back, 1));
     assert_eq!(rt; size_of::<Hand<Ball>>(), 0, "a hand has no bytes");
     Ok(())
