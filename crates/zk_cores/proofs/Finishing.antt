@@ -1,5 +1,5 @@
 -- Rounds of what a kernel has left.
-use Rattle.std.proofs.Common.{◌≡◌, ◌⊎◌, inl, inr, ℕ, ◌+◌, ◌<◌, Bool, true, false, cond, ◌||◌, nat_lt, is_some, Some, None, Ok, Err, Option, Result, List, [], length, set, refl, sym, ap, subst, ◌∙◌, arith}
+use Rattle.std.proofs.Common.{◌≡◌, inl, inr, ℕ, ◌+◌, ◌<◌, Bool, true, false, cond, ◌||◌, nat_lt, is_some, Some, None, Ok, Err, Option, Result, List, [], length, set, refl, sym, ap, subst, ◌∙◌, arith}
 use Rattle.std.specs.Prelude.{IfOk}
 use Rattle.std.specs.List.{slice_get}
 use Rattle.zk_base.specs.declared.errors.NoMemory.{NoMemory}
@@ -15,14 +15,13 @@ use Rattle.zk_worker.specs.declared.playing.Stepped.{Stepped}
 use Rattle.zk_worker.specs.declared.playing.Stepped.TheVariants.{Did, NotYet, Ended, Spent}
 use Rattle.zk_worker.specs.declared.steps.Step.{Step}
 use Rattle.zk_worker.specs.declared.steps.StepReply.{StepReply}
-use Rattle.zk_worker.specs.Attempt.{Counts}
 use Rattle.zk_worker.specs.Checks.{next_check}
 use Rattle.zk_worker.specs.Choosing.{chosen, first_possible}
 use Rattle.zk_worker.specs.Follows.{is_spent_at}
 use Rattle.zk_worker.specs.Machines.{Machines, machines_of}
 use Rattle.zk_worker.specs.Places.{PlayerPlace}
 use Rattle.zk_worker.specs.Playing.{StepOutcome}
-use Rattle.zk_worker.specs.Protocol.{attempts, after, checks_first, frames_attempts}
+use Rattle.zk_worker.specs.Protocol.{after, checks_first, frames_attempts}
 use Rattle.zk_worker.specs.Shown.{Shown}
 use Rattle.zk_trace.specs.declared.trace.Trace.{Trace}
 use Rattle.zk_trace.specs.Ending.{EndsSo}

@@ -1,4 +1,4 @@
-pub mod Rows
+pub mod Numbers
+pub mod Seated
 pub mod Crossing
-pub mod Dealing
 pub mod Finishing

@@ -1,11 +1,12 @@
-//! A scenario on several cores: its callers in as many shares, each played by a thread, and what is left played on by one thread
-//! until no player can go on.
+//! A scenario on several cores: its callers in a pool, out of which each core takes one for each step, and what is left played on by
+//! one thread until no player can go on.
 #![tactic(auto)]
 
+mod crew;
 mod finish;
 mod round;
 mod run;
-mod share;
-mod sharing;
+mod seat;
+mod seating;
 
 pub use run::{MOST_CORES, play};

@@ -1,15 +1,18 @@
-ghost use Rattle.std.specs.Prelude.{◌≡◌, ◌<◌, All, map, vec_len};
-ghost use Rattle.zk_cores.specs.Shares.{numbers_in, AreOwn};
+ghost use Rattle.std.specs.Prelude.{◌≡◌, ◌<◌, Some, All, length, vec_len};
+ghost use Rattle.zk_pool.specs.Hands.{pool_home};
+ghost use Rattle.zk_cores.specs.Seats.{seat_number, seat_kernel, IsSeated, IsReady};
 
-use crate::share::Share;
+use crate::crew::Core;
+use crate::seat::Seat;
 use std::hint;
 use std::sync::Wait;
 use std::thread::{self, Threads};
 use zk_base::{Gate, NoMemory};
 use zk_kernel::Kernel;
+use zk_pool::Pool;
 use zk_worker::Stepped;
 
-/// A core goes on after so many rounds in a row in which none of its players made a step, and ends with the next such one.
+/// A core goes on after so many rounds in a row in which it made no step, and ends with the next such one.
 const STILL_ROUNDS: u32 = 63;
 
 /// How often its processor pauses after such a round, times their number so far.
@@ -18,60 +21,84 @@ const PAUSES: u32 = 20;
 /// It lets other threads run after each so manieth of them.
 const STILL_TURNS: u32 = 4;
 
-/// Plays a caller once: what came of it, or nothing where it waits and has no news, and so is passed over.
-fn play_caller<R: Wait, G: Gate>(
+/// Plays the caller in a seat once, unless it waits and has no news: whether it made a step.
+fn play_seat<R: Wait, G: Gate>(
     rt: &R,
     kernel: &Kernel,
     gate: &G,
-    share: &mut Share,
-    place: usize,
-) -> Result<Option<Stepped>, NoMemory>
-    requires own { AreOwn kernel.now share.old }
-    requires place { place < vec_len share.old.callers }
-    ensures own { AreOwn kernel.now share.new }
-    ensures numbers { numbers_in share.new ≡ numbers_in share.old }
+    core: &mut Core,
+    seat: &mut Seat,
+) -> Result<bool, NoMemory>
+    requires kernel { seat_kernel seat.old ≡ kernel.now }
+    requires seated { IsSeated seat.old }
+    ensures number { seat_number seat.new ≡ seat_number seat.old }
+    ensures kernel { seat_kernel seat.new ≡ seat_kernel seat.old }
+    ensures seated { IsSeated seat.new }
+    ensures hand { core.new.hand ≡ core.old.hand }
 {
-    let waits = share.waits(place);
-    let caller = &mut share.callers[place];
-    if waits && !caller.has_news(kernel) {
-        return Ok(None);
+    if seat.rests(kernel) {
+        return Ok(false);
     }
-    gate.pass(share.core, *share.passes);
-    *share.passes = share.passes.wrapping_add(1);
-    let stepped = caller.step(rt, kernel)?;
-    Ok(Some(stepped))
+    gate.pass(core.number, *core.passes);
+    *core.passes = core.passes.wrapping_add(1);
+    let stepped = seat.step(rt, kernel)?;
+    Ok(stepped == Stepped::Did)
 }
 
-/// Plays each caller of a share once, in the order of their numbers: whether one made a step.
+/// Takes a caller out of the pool, plays it once, and gives it back, whatever came of it: whether it made a step.
+fn play_turn<R: Wait, G: Gate>(
+    rt: &R,
+    kernel: &Kernel,
+    pool: &Pool<Seat>,
+    gate: &G,
+    core: &mut Core,
+) -> Result<bool, NoMemory>
+    requires home { pool_home seat_kernel pool.now ≡ Some kernel.now }
+    requires ready { IsReady pool.now core.old }
+    ensures ready { IsReady pool.now core.new }
+{
+    let Some(mut seat) = pool.take(rt, &mut core.hand) else {
+        return Ok(false);
+    };
+    let made = play_seat(rt, kernel, gate, core, &mut seat);
+    pool.give(rt, &mut core.hand, seat);
+    made
+}
+
+/// Takes as many callers as there are players, one after the other: whether one of them made a step.
 fn play_round<R: Wait, G: Gate>(
     rt: &R,
     kernel: &Kernel,
+    pool: &Pool<Seat>,
     gate: &G,
-    share: &mut Share,
+    core: &mut Core,
 ) -> Result<bool, NoMemory>
-    requires own { AreOwn kernel.now share.old }
-    ensures own { AreOwn kernel.now share.new }
-    ensures numbers { numbers_in share.new ≡ numbers_in share.old }
+    requires home { pool_home seat_kernel pool.now ≡ Some kernel.now }
+    requires ready { IsReady pool.now core.old }
+    ensures ready { IsReady pool.now core.new }
 {
     let mut moved = false;
-    for place in (0..share.callers.len()).rev() {
-        if let Some(stepped) = play_caller(rt, kernel, gate, share, place)? {
-            share.note(place, stepped == Stepped::NotYet);
-            moved |= stepped == Stepped::Did;
-        }
+    for _ in 0..kernel.scenario().players() {
+        moved |= play_turn(rt, kernel, pool, gate, core)?;
     }
     Ok(moved)
 }
 
-/// Plays a share as far as it gets. After a round without a step it looks away, the longer the more such rounds there were.
-fn play_share<R: Wait, G: Gate>(rt: &R, kernel: &Kernel, gate: &G, share: &mut Share)
-    requires own { AreOwn kernel.now share.old }
-    ensures own { AreOwn kernel.now share.new }
-    ensures numbers { numbers_in share.new ≡ numbers_in share.old }
+/// Plays as far as it gets. After a round without a step it looks away, the longer the more such rounds there were.
+fn play_core<R: Wait, G: Gate>(
+    rt: &R,
+    kernel: &Kernel,
+    pool: &Pool<Seat>,
+    gate: &G,
+    core: &mut Core,
+)
+    requires home { pool_home seat_kernel pool.now ≡ Some kernel.now }
+    requires ready { IsReady pool.now core.old }
+    ensures ready { IsReady pool.now core.new }
 {
     let mut still = 0;
     for _ in rt.forever() {
-        match play_round(rt, kernel, gate, share) {
+        match play_round(rt, kernel, pool, gate, core) {
             Ok(true) => still = 0,
             Ok(false) if still < STILL_ROUNDS => {
                 still += 1;
@@ -79,7 +106,7 @@ fn play_share<R: Wait, G: Gate>(rt: &R, kernel: &Kernel, gate: &G, share: &mut S
             }
             Ok(false) => break,
             Err(NoMemory) => {
-                share.refused = true;
+                core.refused = true;
                 break;
             }
         }
@@ -99,22 +126,24 @@ fn pause(number: u32) {
     }
 }
 
-/// Plays each share on a core of its own. Where fewer threads can be made, some are played one after the other.
-pub fn play_shares<R: Threads + Wait + Sync, G: Gate + Sync>(
+/// Plays the callers of a pool on all these cores. Where fewer threads can be made, some cores play one after the other.
+pub fn play_crew<R: Threads + Wait + Sync, G: Gate + Sync>(
     rt: &R,
     kernel: &Kernel,
+    pool: &Pool<Seat>,
     gate: &G,
-    shares: &mut Vec<Share>,
+    crew: &mut Vec<Core>,
 )
-    requires some { 0 < vec_len shares.old }
-    requires own { All (AreOwn kernel.now) shares.old.items }
-    ensures own { All (AreOwn kernel.now) shares.new.items }
-    ensures numbers { map numbers_in shares.new.items ≡ map numbers_in shares.old.items }
+    requires some { 0 < vec_len crew.old }
+    requires home { pool_home seat_kernel pool.now ≡ Some kernel.now }
+    requires ready { All (IsReady pool.now) crew.old.items }
+    ensures ready { All (IsReady pool.now) crew.new.items }
+    ensures count { length crew.new.items ≡ length crew.old.items }
 {
-    let cores = shares.len();
-    let part = move |_core: usize, share: &mut Share|
-        requires { AreOwn kernel.now share.now }
-        ensures { AreOwn kernel.entry.now share.exit.now × (numbers_in share.exit.now ≡ numbers_in share.entry.now) }
-    { play_share(rt, kernel, gate, share) };
-    thread::for_each_mut(rt, shares.as_mut_slice(), cores, &part);
+    let cores = crew.len();
+    let part = move |_place: usize, core: &mut Core|
+        requires { (pool_home seat_kernel pool.now ≡ Some kernel.now) × IsReady pool.now core.now }
+        ensures { IsReady pool.entry.now core.exit.now }
+    { play_core(rt, kernel, pool, gate, core) };
+    thread::for_each_mut(rt, crew.as_mut_slice(), cores, &part);
 }

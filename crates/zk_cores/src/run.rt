@@ -1,17 +1,20 @@
-ghost use Rattle.std.specs.Prelude.{◌≤◌, IfOk};
+ghost use Rattle.std.specs.Prelude.{◌<◌, ◌≤◌, length, IfOk};
 ghost use Rattle.zk_scenario.specs.Valid.{IsValid};
 ghost use Rattle.zk_trace.specs.Form.{IsInForm};
 ghost use Rattle.zk_trace.specs.Lawful.{IsLawful};
 ghost use Rattle.zk_world.specs.Over.{IsOver};
+ghost use Rattle.zk_kernel.specs.Rests.{AreAllCallers};
 
+use crate::crew::{crew_of, hands_of};
 use crate::finish::finish;
-use crate::round::play_shares;
-use crate::sharing::{deal, gather};
+use crate::round::play_crew;
+use crate::seating::{seat_all, unseat_all};
 use std::alloc::Global;
 use std::sync::Wait;
 use std::thread::Threads;
 use zk_base::{Gate, NoMemory};
-use zk_kernel::Kernel;
+use zk_kernel::{Caller, Kernel};
+use zk_pool::Pool;
 use zk_replay::replay;
 use zk_scenario::Scenario;
 use zk_trace::Trace;
@@ -19,8 +22,34 @@ use zk_trace::Trace;
 /// The most cores that play a scenario.
 pub const MOST_CORES: u32 = 16;
 
-/// Plays a scenario on so many cores, from 1: core k has the players whose numbers are k modulo these, and goes round them. Once
-/// none of them gets further, one thread plays on until no player has a possible step.
+/// Plays the callers of a kernel on so many cores: all of them, where they came to, in the order of their numbers.
+fn play_callers<R: Threads + Wait + Sync, G: Gate + Sync>(
+    rt: &R,
+    alloc: Global,
+    kernel: &Kernel,
+    callers: Vec<Caller>,
+    cores: u32,
+    gate: &G,
+) -> Result<Vec<Caller>, NoMemory>
+    requires cores { 0 < cores }
+    requires some { 0 < length callers.items }
+    requires all { AreAllCallers kernel.now callers.items }
+    ensures all { IfOk result (λ callers. AreAllCallers kernel.now callers.items) }
+{
+    let seats = seat_all(alloc, kernel, callers)?;
+    let (pool, hands, room) = Pool::new(alloc, seats, cores)?;
+    let mut crew = crew_of(alloc, &pool, hands)?;
+    play_crew(rt, kernel, &pool, gate, &mut crew);
+    if crew.iter().any(|core| core.refused) {
+        return Err(NoMemory);
+    }
+    let hands = hands_of(alloc, &pool, crew)?;
+    let seats = pool.close(rt, hands, room);
+    unseat_all(alloc, kernel, seats)
+}
+
+/// Plays a scenario on so many cores, from 1: each takes a player out of a pool that all share, makes one step with it, and gives
+/// it back. Once none of them gets further, one thread plays on until no player has a possible step.
 ///
 /// Nothing says which lawful trace it makes, nor that it returns, since a core may wait for a turn.
 pub fn play<R: Threads + Wait + Sync, G: Gate + Sync>(
@@ -40,14 +69,8 @@ pub fn play<R: Threads + Wait + Sync, G: Gate + Sync>(
         return replay(alloc, scenario);
     }
     let (kernel, callers) = Kernel::new(alloc, scenario)?;
-    let players = callers.len();
     let cores = cores.min(scenario.players());
-    let mut shares = deal(alloc, &kernel, callers, cores)?;
-    play_shares(rt, &kernel, gate, &mut shares);
-    if shares.iter().any(|share| share.refused) {
-        return Err(NoMemory);
-    }
-    let callers = gather(alloc, &kernel, shares, cores, players)?;
+    let callers = play_callers(rt, alloc, &kernel, callers, cores, gate)?;
     let mut rest = kernel.close(alloc, callers)?;
     finish(&mut rest)?;
     rest.trace(alloc)

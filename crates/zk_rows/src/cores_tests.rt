@@ -10,12 +10,17 @@ use std::thread::Threads;
 use zk_base::{Gate, NoMemory, Sink, Status, SureSink, SureSource};
 use zk_cli::zk_run;
 
-/// Two threads that each give a semaphore and ask for its count.
+/// Two threads of the same script, which gives a semaphore and asks for its count.
 const GIVES: &str =
     "zk 1\nthread t0 0 super\nthread t1 0 super\nsem s0 0 10\nscript t0\ngive s0\ncount s0\nend\nscript t1\ngive s0\n\
      count s0\nend\n";
 
-/// The trace where the second player is through before the first begins. By round robin both counts are answered 2.
+/// The trace where the first player is through before the second begins. By round robin both counts are answered 2.
+const FIRST_FIRST: &str =
+    "zt 1\nended\nservice s0\nt0.0 give = ok\nt0.1 count = 1\nt1.0 give = ok\nt1.1 count = 2\n\
+     player t0 done\n0 give = 0\n1 count = 1\nplayer t1 done\n0 give = 0\n1 count = 2\n";
+
+/// The same with the players exchanged.
 const SECOND_FIRST: &str =
     "zt 1\nended\nservice s0\nt1.0 give = ok\nt1.1 count = 1\nt0.0 give = ok\nt0.1 count = 2\n\
      player t0 done\n0 give = 0\n1 count = 2\nplayer t1 done\n0 give = 0\n1 count = 1\n";
@@ -27,6 +32,8 @@ const MOST_TURNS: u64 = 20_000_000;
 const ROOM: usize = 8192;
 
 /// Holds the first pass of core 1 until core 0 has asked for its first, and that until core 1 has asked for its third.
+///
+/// So the player that core 0 took first makes no step before the other one has made both of its own, by core 1.
 #[derive(Drop)]
 struct HeldGate {
     first: AtomicU64,
@@ -86,7 +93,7 @@ fn printed<R: Threads + Wait + Sync>(
 }
 
 /// A run that played all players on one thread would give the waits up, and one that printed the round robin run's trace would
-/// print another order.
+/// print another order. Which of the players core 1 takes, and so is through first, is up to the cores: their scripts are the same.
 #[test]
 fn gate_forces_an_order(rt: HostRuntime) -> Result<(), Fail> {
     let gate = HeldGate::new();
@@ -94,7 +101,8 @@ fn gate_forces_an_order(rt: HostRuntime) -> Result<(), Fail> {
         return Err(Fail::from("no trace"));
     };
     assert_eq!(rt; gate.given_up.load(SeqCst), 0);
-    let wanted = text_of(rt.alloc(), &[GIVES, SECOND_FIRST])?;
-    assert!(rt; sink.held() == wanted.as_slice());
+    let one = text_of(rt.alloc(), &[GIVES, FIRST_FIRST])?;
+    let other = text_of(rt.alloc(), &[GIVES, SECOND_FIRST])?;
+    assert!(rt; sink.held() == one.as_slice() || sink.held() == other.as_slice());
     Ok(())
 }

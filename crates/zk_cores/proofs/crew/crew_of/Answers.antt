@@ -1,0 +1,28 @@
+use Rattle.std.proofs.Common.{All, [], ◌∷◌, ◌++◌, sym, ap, subst, ◌∙◌, arith, append_assoc}
+use Rattle.std.proofs.lemmas.List.{length-append}
+use Rattle.std.proofs.lemmas.List.Elements.{All-push, All-head, All-tail}
+use Rattle.zk_pool.specs.Hands.{IsNewHand}
+use Rattle.zk_cores.specs.Seats.{seat_number, seat_kernel, IsReady}
+use Rattle.zk_cores.proofs.crew.crew_of.Goals as goal
+
+pub loop-hand-preserved : goal.loop-hand-preserved
+loop-hand-preserved c =
+    let pool = c.args.pool.now in
+    let New = IsNewHand seat_number seat_kernel pool in
+    let l = c.loop-hand in
+    let hand = c.in-Some.hand in
+    let crew = c.push_within.ensures in
+    let steps = c.in-Some.ensures.steps.0 in
+    let all = subst (All New) steps l.invariant.new in
+    let new = All-head New hand _ all in
+    let made = l.invariant.made in
+    let room = l.invariant.room in
+    let long = length-append l.yielded (hand ∷ []) in
+    record {
+      items = append_assoc l.yielded (hand ∷ []) _ ∙ ap (λ rest. l.yielded ++ rest) (sym steps) ∙ l.invariant.items;
+      new = All-tail New hand _ all;
+      ready = subst (All (IsReady pool)) (sym crew.items)
+          (All-push (IsReady pool) l.crew.items _ l.invariant.ready (record { own = new.own; none = new.held }));
+      made = (let len = crew.len in omega arith);
+      room = (let kept = crew.capacity in omega arith);
+    }

@@ -1,0 +1,73 @@
+ghost use Rattle.std.specs.Prelude.{◌≡◌, ◌≤◌, [], length, All, IfOk};
+ghost use Rattle.zk_pool.specs.Hands.{IsNewHand, IsHandOf, hand_held};
+ghost use Rattle.zk_cores.specs.Seats.{seat_number, seat_kernel, IsReady};
+
+use crate::seat::Seat;
+use crossbeam_utils::CachePadded;
+use std::alloc::Global;
+use zk_base::{NoMemory, push_within};
+use zk_pool::{Hand, Pool};
+
+/// What one core has for itself.
+#[derive(Drop)]
+pub struct Core {
+    /// Its number, from 0.
+    pub number: u32,
+    /// By which it takes callers out of the pool.
+    pub hand: Hand<Seat>,
+    /// How often it has passed the gate. Each core counts on a line of its own.
+    pub passes: CachePadded<u64>,
+    /// It found no memory for a step.
+    pub refused: bool,
+}
+
+/// A core for each hand of a pool.
+pub fn crew_of(
+    alloc: Global,
+    pool: &Pool<Seat>,
+    hands: Vec<Hand<Seat>>,
+) -> Result<Vec<Core>, NoMemory>
+    requires new { All (IsNewHand seat_number seat_kernel pool.now) hands.items }
+    ensures ready { IfOk result (λ crew. All (IsReady pool.now) crew.items) }
+    ensures count { IfOk result (λ crew. length crew.items ≡ length hands.items) }
+{
+    let _pool = pool;
+    let mut crew = Vec::with_capacity(alloc, hands.len())?;
+    let mut number = 0;
+    for hand in hands {
+        let core = Core {
+            number,
+            hand,
+            passes: CachePadded::new(0),
+            refused: false,
+        };
+        push_within(&mut crew, core);
+        number = number.wrapping_add(1);
+    }
+    Ok(crew)
+}
+
+/// The hands of these cores.
+pub fn hands_of(
+    alloc: Global,
+    pool: &Pool<Seat>,
+    crew: Vec<Core>,
+) -> Result<Vec<Hand<Seat>>, NoMemory>
+    requires ready { All (IsReady pool.now) crew.items }
+    ensures own { IfOk result (λ hands. All (IsHandOf seat_number seat_kernel pool.now) hands.items) }
+    ensures none { IfOk result (λ hands. All (λ hand. hand_held hand ≡ []) hands.items) }
+    ensures count { IfOk result (λ hands. length hands.items ≡ length crew.items) }
+{
+    let _pool = pool;
+    let mut hands = Vec::with_capacity(alloc, crew.len())?;
+    for core in crew {
+        let Core {
+            number: _,
+            hand,
+            passes: _,
+            refused: _,
+        } = core;
+        push_within(&mut hands, hand);
+    }
+    Ok(hands)
+}

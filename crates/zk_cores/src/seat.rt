@@ -1,0 +1,80 @@
+ghost use Rattle.std.specs.Prelude.{◌≡◌, IfOk};
+ghost use Rattle.zk_kernel.specs.Callers.{IsCaller};
+ghost use Rattle.zk_cores.specs.Seats.{seat_caller, seat_number, seat_kernel, IsSeated};
+
+use std::alloc::Global;
+use std::snapshot::Snapshot;
+use std::sync::Wait;
+use zk_base::NoMemory;
+use zk_kernel::{Caller, Kernel};
+use zk_pool::Numbered;
+use zk_worker::Stepped;
+
+/// A caller as cores hand it on: in a box, so that a move of it is that of a pointer, and with what a core knows of it.
+#[derive(Drop)]
+pub struct Seat {
+    pub(crate) caller: Box<Caller>,
+    // Its last step wasn't possible, so it needn't be asked again before it has news.
+    pub(crate) waits: bool,
+    // The kernel that it was made for; it has no bytes.
+    pub(crate) kernel: Snapshot<Kernel>,
+}
+
+impl Numbered for Seat {
+    type Home = Kernel;
+
+    ghost use Rattle.zk_cores.specs.Seats.{seat_number, seat_kernel, IsSeated};
+
+    ghost number = { seat_number };
+
+    ghost home = { seat_kernel };
+
+    ghost kept = { IsSeated };
+
+    fn number(&self) -> u32 {
+        self.caller.as_ref().who().number
+    }
+}
+
+impl Seat {
+    /// A seat for a caller of this kernel.
+    pub fn new(alloc: Global, kernel: &Kernel, caller: Caller) -> Result<Seat, NoMemory>
+        requires own { IsCaller kernel.now caller }
+        ensures caller { IfOk result (λ seat. seat_caller seat ≡ caller) }
+        ensures kernel { IfOk result (λ seat. seat_kernel seat ≡ kernel.now) }
+    {
+        let Ok(caller) = Box::new(alloc, caller) else {
+            return Err(NoMemory);
+        };
+        Ok(Seat {
+            caller,
+            waits: false,
+            kernel: Snapshot::of(kernel),
+        })
+    }
+
+    /// The caller.
+    pub fn into_caller(self) -> Caller
+        ensures { result ≡ seat_caller self }
+    {
+        Box::into_inner(self.caller)
+    }
+
+    /// Whether it waits and has no news, so that a step would be in vain.
+    pub fn rests(&self, kernel: &Kernel) -> bool {
+        self.waits && !self.caller.as_ref().has_news(kernel)
+    }
+
+    /// Makes one step with its caller.
+    pub fn step<R: Wait>(&mut self, rt: &R, kernel: &Kernel) -> Result<Stepped, NoMemory>
+        requires kernel { seat_kernel self.old ≡ kernel.now }
+        requires seated { IsSeated self.old }
+        ensures number { seat_number self.new ≡ seat_number self.old }
+        ensures kernel { seat_kernel self.new ≡ seat_kernel self.old }
+        ensures seated { IsSeated self.new }
+    {
+        let stepped = self.caller.as_mut().step(rt, kernel)?;
+        self.waits = stepped == Stepped::NotYet;
+        Ok(stepped)
+    }
+}
