@@ -1,6 +1,8 @@
 //! Times of turns and looks at a service that threads share, beside a lock round the same service. With no word it does nothing.
 #![tactic(auto)]
 
+mod signals;
+
 ghost use Rattle.std.specs.Prelude.{◌≡◌, ◌≤◌, true, Some, length, IfOk};
 ghost use Rattle.zk_base.specs.History.{IsAbove};
 ghost use Rattle.zk_base.specs.Legal.{IsLegal};
@@ -343,5 +345,6 @@ fn main(rt: HostRuntime) -> io::Result<()> {
     turns_of_two(&rt)?;
     turns_of_four(&rt)?;
     own_cells(&rt)?;
-    locks(&rt)
+    locks(&rt)?;
+    signals::rows(&rt)
 }
