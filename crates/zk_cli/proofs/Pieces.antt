@@ -1,9 +1,10 @@
 -- What reading and writing in pieces comes to.
-use Rattle.std.proofs.Common.{◌≡◌, ℕ, ◌+◌, ◌-◌, ◌≤◌, ◌⊎◌, List, [], ◌++◌, length, take, drop, Option, Some, None, sym, ap, ◌∙◌, arith, append_assoc, length-drop, inl, inr, append-nil}
+use Rattle.std.proofs.Common.{◌≡◌, ℕ, ◌+◌, ◌-◌, ◌≤◌, ◌⊎◌, List, [], ◌++◌, length, take, drop, Option, Some, None, sym, ap, ◌∙◌, arith, append_assoc, length-append, length-drop, inl, inr, append-nil}
+use Rattle.std.proofs.KnownBytes.{Consumes-trans}
 use Rattle.std.proofs.lemmas.List.{take_all, drop_all, length-take-le, take-append-drop}
 use Rattle.std.proofs.Math.Seq.{take-append_seam, drop-append_seam, take-append-add}
 use Rattle.std.specs.Io.KnownBytes.{Consumes, Appends, IsAtEnd}
-use Rattle.zk_cli.specs.Input.{HasRead, Moves}
+use Rattle.zk_cli.specs.Input.{HasRead, Moves, GaveAtMost}
 
 -- one piece more
 pub Consumes-more : (first left left' : Option (List ℕ)) (read read' : List ℕ) (n : ℕ) → Consumes first left read → Moves left left' read read' n → Consumes first left' read'
@@ -12,6 +13,13 @@ Consumes-more (Some xs) None left' read read' n so more = absurd so
 Consumes-more (Some xs) (Some ys) None read read' n so more = more
 Consumes-more (Some xs) (Some ys) (Some zs) read read' n so more =
     so ∙ ap (λ r. read ++ r) more.1 ∙ sym (append_assoc read more.0 zs) ∙ ap (λ r. r ++ zs) (sym more.2)
+
+-- what was read, and at most so many bytes more
+pub GaveAtMost-more : (limit : ℕ) (first left left' : Option (List ℕ)) (read : List ℕ) → length read ≤ limit →
+    Consumes first left read → GaveAtMost (limit + 1 - length read) left left' → GaveAtMost (limit + 1) first left'
+GaveAtMost-more limit first left left' read within so more =
+    let sized = length-append read more.0 in
+    (read ++ more.0, omega (arith, sized, within, more.1), Consumes-trans first left left' read more.0 so more.2)
 
 take-more : (m n : ℕ) (text : List ℕ) → m ≤ length text → take (m + n) text ≡ take m text ++ take n (drop m text)
 take-more m n text within =

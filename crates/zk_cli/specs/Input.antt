@@ -1,4 +1,5 @@
-use Rattle.std.specs.Prelude.{◌≡◌, ℕ, ◌+◌, List, [], ◌++◌, take, drop, Option, Some, None, ⊤}
+use Rattle.std.specs.Prelude.{◌≡◌, ℕ, ◌+◌, ◌≤◌, List, [], ◌++◌, length, take, drop, Option, Some, None, ⊤}
+use Rattle.std.specs.Io.KnownBytes.{Consumes}
 use Rattle.zk_base.specs.Causes.{Rose}
 use Rattle.zk_cli.specs.declared.input.NoInput.{NoInput}
 use Rattle.zk_cli.specs.declared.input.NoInput.TheVariants.{Fault, NoMemory}
@@ -8,6 +9,10 @@ abbrev pub HasRead : ℕ → Option (List ℕ) → Option (List ℕ) → List �
 HasRead limit None left read = ⊤
 HasRead limit (Some input) None read = ⊥
 HasRead limit (Some input) (Some left) read = (read ≡ take (limit + 1) input) × (left ≡ drop (limit + 1) input)
+
+-- the source gave so many of its bytes at most, from the front
+abbrev pub GaveAtMost : ℕ → Option (List ℕ) → Option (List ℕ) → Type 0
+GaveAtMost most old new = (bytes : List ℕ) × (length bytes ≤ most) × Consumes old new bytes
 
 -- the next n bytes moved from the source to the end of what was read, and 0 is the end
 abbrev pub Moves : Option (List ℕ) → Option (List ℕ) → List ℕ → List ℕ → ℕ → Type 0

@@ -44,7 +44,7 @@ fn checked(
     let first_line = line_count(front) as u32 + 1;
     match read_trace(alloc, scenario, trace, first_line) {
         Ok(trace) => said(alloc, check(alloc, scenario, &trace)?),
-        Err(TraceRefused::At(line)) => Ok((no_trace(alloc, line)?, Status::Refused)),
+        Err(TraceRefused::At(line)) => Ok((trace_refusal(alloc, line)?, Status::Refused)),
         Err(TraceRefused::NoMemory) => Err(NoMemory),
     }
 }
@@ -94,8 +94,8 @@ fn unlawful(alloc: Global, line: u32, fail: Fail) -> Result<Vec<u8>, NoMemory>
     Ok(text)
 }
 
-/// The line of a refused trace part.
-fn no_trace(alloc: Global, line: u32) -> Result<Vec<u8>, NoMemory>
+/// The line with which a trace part is refused, at the line of this number.
+pub fn trace_refusal(alloc: Global, line: u32) -> Result<Vec<u8>, NoMemory>
     ensures { IfOk result (λ text. text.items ≡ trace_refused line) }
 {
     let mut text = Vec::new(alloc);

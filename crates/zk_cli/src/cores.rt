@@ -18,7 +18,7 @@ use zk_base::{Gate, Sink, Source, Status};
 /// prints the scenario's text and the trace. All other words are refused.
 ///
 /// The trace is a lawful one, however the cores interleave. Nothing is claimed of which one it is, nor that it returns, since a
-/// core may wait for a turn. Each core asks the gate each time before it plays one of its players. What is said of the input and
+/// core may wait for a turn. Each core asks the gate each time before it plays a player. What is said of the input and
 /// the output is said where the source and the sink tell their bytes.
 pub fn zk_run<R: Threads + Wait + Sync, S: Source, K: Sink, G: Gate + Sync>(
     rt: &R,

@@ -1,6 +1,6 @@
-ghost use Rattle.std.specs.Prelude.{◌≡◌, ℕ, ◌+◌, ◌^◌, ◌<◌, ◌≤◌, [], ◌++◌, length, take, drop, List, Option, IfOk, IfErr, OnOk, OnErr, vec_len, IfSome, Some};
+ghost use Rattle.std.specs.Prelude.{◌≡◌, ℕ, ◌+◌, ◌-◌, ◌^◌, ◌<◌, ◌≤◌, [], ◌++◌, length, take, drop, List, Option, IfOk, IfErr, OnOk, OnErr, vec_len, IfSome, Some};
 ghost use Rattle.zk_base.specs.Causes.{Rose};
-ghost use Rattle.zk_cli.specs.Input.{HasRead, IsCaused, Moves};
+ghost use Rattle.zk_cli.specs.Input.{HasRead, IsCaused, Moves, GaveAtMost};
 
 use std::alloc::{AllocError, AllocFailed, Global};
 use zk_base::{Failed, Source};
@@ -45,26 +45,25 @@ pub fn read_input<S: Source>(
     limit: usize,
 ) -> Result<Vec<u8>, NoInput>
     requires { limit < 2 ^ 32 }
+    ensures most { GaveAtMost (limit + 1) (S.left source.old) (S.left source.new) }
     ensures bytes { IfOk result (λ read. HasRead limit (S.left source.old) (S.left source.new) read.items) }
     ensures fault { IfErr result (λ e. IsCaused (S.faults source.old) (S.faults source.new) e) }
     ensures counts { IfOk result (λ _. S.faults source.new ≡ S.faults source.old) }
 {
     let mut bytes = Vec::new(alloc);
-    for _ in 0..limit + 1 {
+    while bytes.len() <= limit {
         if read_some(source, &mut bytes, limit)? == 0 {
             return Ok(bytes);
         }
-        if bytes.len() > limit {
-            return Ok(bytes);
-        }
     }
-    unreachable!()
+    Ok(bytes)
 }
 
 /// Reads once, to the end of these bytes, and never past one byte above the limit.
 fn read_some<S: Source>(source: &mut S, bytes: &mut Vec<u8>, limit: usize) -> Result<usize, NoInput>
     requires small { limit < 2 ^ 32 }
     requires within { vec_len bytes.old ≤ limit }
+    ensures most { GaveAtMost (limit + 1 - vec_len bytes.old) (S.left source.old) (S.left source.new) }
     ensures moved { IfOk result (λ n. Moves (S.left source.old) (S.left source.new) bytes.old.items bytes.new.items n) }
     ensures size { IfOk result (λ n. vec_len bytes.new ≡ vec_len bytes.old + n) }
     ensures within { IfOk result (λ n. vec_len bytes.new ≤ limit + 1) }

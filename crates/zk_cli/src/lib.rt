@@ -10,6 +10,9 @@ mod output;
 mod soak;
 mod top;
 
+pub use check::trace_refusal;
 pub use cores::zk_run;
 pub use form::{Form, LONGEST_TRACE, needs_cores};
+pub use input::{NoInput, read_input};
+pub use output::write_text;
 pub use top::zk_plain;

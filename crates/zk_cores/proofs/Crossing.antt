@@ -14,6 +14,7 @@ use Rattle.zk_pool.specs.contracts.pool.Pool as pool
 use Rattle.zk_cores.specs.contracts.seat.Seat as seat
 use Rattle.zk_cores.specs.contracts.seat.SeatNumbered.TheImpl.{ghosts}
 use Rattle.zk_cores.specs.contracts.crew.Core as core
+use Rattle.zk_cores.specs.contracts.meeting.Meeting as meeting
 
 pub seat_send : IsSend seat.the_row
 seat_send = search (caller_send, sendable, crosses) depth 30
@@ -34,8 +35,12 @@ seats_row = pool.the_row seat.the_row kernel.the_row ghosts
 pub seats_sync : IsSync seats_row
 seats_sync = pool_sync seat.the_row kernel.the_row ghosts seat_send
 
--- a closure may be shared where the four things that it holds may
-pub closure_of_four : (ν : Sym) (A B C D : RattleType) → IsSync A → IsSync B → IsSync C → IsSync D → IsSync (TupleAt ν (A ∷ B ∷ C ∷ D ∷ []))
-closure_of_four ν A B C D a b c d =
-    let held = type_at ν (A ∷ B ∷ C ∷ D ∷ []) in
-    recorded_sync _ _ _ held.to_one (struct_sync (shape held) (a, (b, (c, (d, tt)))))
+pub meeting_sync : IsSync meeting.the_row
+meeting_sync = search (sendable, crosses) depth 20
+
+-- a closure may be shared where the five things that it holds may
+pub closure_of_five : (ν : Sym) (A B C D E : RattleType) → IsSync A → IsSync B → IsSync C → IsSync D → IsSync E →
+    IsSync (TupleAt ν (A ∷ B ∷ C ∷ D ∷ E ∷ []))
+closure_of_five ν A B C D E a b c d e =
+    let held = type_at ν (A ∷ B ∷ C ∷ D ∷ E ∷ []) in
+    recorded_sync _ _ _ held.to_one (struct_sync (shape held) (a, (b, (c, (d, (e, tt))))))

@@ -4,6 +4,7 @@
 
 mod crew;
 mod finish;
+mod meeting;
 mod round;
 mod run;
 mod seat;

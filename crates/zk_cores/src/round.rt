@@ -3,6 +3,7 @@ ghost use Rattle.zk_pool.specs.Hands.{pool_home};
 ghost use Rattle.zk_cores.specs.Seats.{seat_number, seat_kernel, IsSeated, IsReady};
 
 use crate::crew::Core;
+use crate::meeting::Meeting;
 use crate::seat::Seat;
 use std::hint;
 use std::sync::Wait;
@@ -84,18 +85,21 @@ fn play_round<R: Wait, G: Gate>(
     Ok(moved)
 }
 
-/// Plays as far as it gets. After a round without a step it looks away, the longer the more such rounds there were.
+/// Plays as far as it gets, once the other cores have come too. After a round without a step it looks away, the longer the more such
+/// rounds there were.
 fn play_core<R: Wait, G: Gate>(
     rt: &R,
     kernel: &Kernel,
     pool: &Pool<Seat>,
     gate: &G,
+    meeting: &Meeting,
     core: &mut Core,
 )
     requires home { pool_home seat_kernel pool.now ≡ Some kernel.now }
     requires ready { IsReady pool.now core.old }
     ensures ready { IsReady pool.now core.new }
 {
+    meeting.come();
     let mut still = 0;
     for _ in rt.forever() {
         match play_round(rt, kernel, pool, gate, core) {
@@ -141,9 +145,11 @@ pub fn play_crew<R: Threads + Wait + Sync, G: Gate + Sync>(
     ensures count { length crew.new.items ≡ length crew.old.items }
 {
     let cores = crew.len();
+    let meeting = Meeting::new(cores);
+    let meeting = &meeting;
     let part = move |_place: usize, core: &mut Core|
         requires { (pool_home seat_kernel pool.now ≡ Some kernel.now) × IsReady pool.now core.now }
         ensures { IsReady pool.entry.now core.exit.now }
-    { play_core(rt, kernel, pool, gate, core) };
+    { play_core(rt, kernel, pool, gate, meeting, core) };
     thread::for_each_mut(rt, crew.as_mut_slice(), cores, &part);
 }

@@ -18,6 +18,7 @@ use zk_base::{NoMemory, Status, SureSink, put, put_decimal};
 ///     $ PIECE        plays the text: the status, and whether the output ends with this piece
 ///     = WORDS        plays the text by these words: the status, and whether that prints what `replay` does
 ///     ~ WORDS        plays the text by these words: the status, and what `check` says of the output
+///     @ WORDS: PIECE plays the text by these words: the status, and whether the output holds this piece
 ///     ? CHANGE       plays the text, and reads the trace changed in this way
 ///     ? check CHANGE plays the text, and checks the trace changed in this way
 ///     &              reads the trace that stands in the text: each entry, look and answer of it
@@ -55,6 +56,7 @@ fn put_row<R: Threads + Wait + Sync>(
         [b'$', piece @ ..] => put_end(alloc, out, text, piece),
         [b'=', ..] => put_same(rt, alloc, out, text, line),
         [b'~', ..] => put_checked(rt, alloc, out, text, line),
+        [b'@', ..] => put_holding(rt, alloc, out, text, line),
         [b'?', ..] => put_change(alloc, out, text, line),
         [b'&'] => put_kept(alloc, out, text),
         _ => put_line(text, line.as_bytes()),
@@ -147,6 +149,37 @@ fn put_checked<R: Threads + Wait + Sync>(
     put(out, b", ")?;
     let checked = play(alloc, " check", sink.held())?;
     put(out, checked.sink.held())
+}
+
+/// The status, and whether the output of these words holds this piece.
+fn put_holding<R: Threads + Wait + Sync>(
+    rt: &R,
+    alloc: Global,
+    out: &mut Vec<u8>,
+    text: &[u8],
+    line: &str,
+) -> Result<(), NoMemory> {
+    let asked = line.strip_prefix('@').unwrap_or("");
+    let (words, piece) = asked.split_once(": ").unwrap_or((asked, ""));
+    let mut wanted = Vec::new(alloc);
+    put_spelled(&mut wanted, piece.as_bytes(), 0)?;
+    let Played { status, sink } = play_by(rt, alloc, words, text)?;
+    put_decimal(out, u64::from(status.code()))?;
+    if holds(sink.held(), &wanted) {
+        put(out, b", holds ")?;
+    } else {
+        put(out, b", doesn't hold ")?;
+    }
+    put_line(out, piece.as_bytes())?;
+    put_faults(alloc, out, text, &sink)
+}
+
+/// Whether a piece stands somewhere in a text.
+fn holds(text: &[u8], piece: &[u8]) -> bool {
+    match piece {
+        [] => true,
+        _ => text.windows(piece.len()).any(|window| window == piece),
+    }
 }
 
 /// The status, and whether the output ends with this piece.

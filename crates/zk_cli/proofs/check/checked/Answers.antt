@@ -28,8 +28,8 @@ returns-in_ok-check-in-Ok c =
     (λ made says. said-output (front ++ trace) s t given checked c.in_ok-check-in-Ok.ensures.lawful c.in_ok-check-in-Ok.ensures.named made.1 made.0.items says)
     c.said.ensures
 
-pub returns-in_ok-no_trace-in-Err-At : goal.returns-in_ok-no_trace-in-Err-At
-returns-in_ok-no_trace-in-Err-At c =
+pub returns-in_ok-trace_refusal-in-Err-At : goal.returns-in_ok-trace_refusal-in-Err-At
+returns-in_ok-trace_refusal-in-Err-At c =
     let s = c.args.scenario.now in
     let front = c.args.front.now in
     let trace = c.args.trace.now in
@@ -37,5 +37,5 @@ returns-in_ok-no_trace-in-Err-At c =
     let none = rw c.in-Err-At.field-0-is at c.in-Err-At.ensures.only in
     let first : c.line_count.result + 1 ≡ 1 + length (lines_in front) = omega (arith, c.line_count.ensures) in
     let at : IsRefusedAt s trace (c.line_count.result + 1) line = rw c.in-Err-At.field-0-is at c.in-Err-At.ensures.at in
-    trace-refused front trace c.in_ok-no_trace-in-Err-At.field-0.items s line c.requires.read c.requires.parts c.requires.short none
-    (subst (λ (n : ℕ). IsRefusedAt s trace n line) first at) c.in_ok-no_trace-in-Err-At.ensures
+    trace-refused front trace c.in_ok-trace_refusal-in-Err-At.field-0.items s line c.requires.read c.requires.parts c.requires.short none
+    (subst (λ (n : ℕ). IsRefusedAt s trace n line) first at) c.in_ok-trace_refusal-in-Err-At.ensures

@@ -1,0 +1,4 @@
+pub mod Arrows
+pub mod Bars
+pub mod Marks
+pub mod Rows

@@ -1,0 +1,4 @@
+pub mod Services
+pub mod Order
+pub mod Lanes
+pub mod Drawing

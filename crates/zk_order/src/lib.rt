@@ -1,0 +1,12 @@
+//! The steps of a trace in one order that each service's history and each player's steps agree with.
+#![tactic(auto)]
+
+mod drawing;
+mod lanes;
+mod order;
+mod services;
+#[cfg(test)]
+mod tests;
+
+pub use order::order_of;
+pub use services::service_number;

@@ -1,0 +1,3 @@
+pub mod Players
+pub mod Refusal
+pub mod Sentences

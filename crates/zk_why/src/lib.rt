@@ -1,0 +1,34 @@
+//! Why a run ended as it did, and why a scenario was refused, in sentences.
+#![tactic(auto)]
+
+mod accepted;
+mod awaited;
+mod before;
+mod cause;
+mod circle;
+mod finding;
+mod limits;
+mod lines;
+mod misnamed;
+mod misplaced;
+mod oops;
+mod open;
+mod people;
+mod placed;
+mod plain;
+mod ranges;
+mod refusal;
+mod run;
+mod sentences;
+mod serving;
+mod spelling;
+mod spent;
+mod stand;
+mod still;
+mod surface;
+mod why;
+
+pub use cause::Cause;
+pub use finding::{Accepted, Finding, Mark};
+pub use refusal::put_refusal;
+pub use why::put_why;

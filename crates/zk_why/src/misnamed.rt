@@ -1,0 +1,148 @@
+use crate::before::Before;
+use crate::placed::{PlacedPart, PlacedParts};
+use crate::{Accepted, Cause, Finding};
+use zk_base::is_name;
+use zk_line::kind_of;
+use zk_scenario::Decl;
+use zk_words::{
+    Head, Line, Lines, Need, Slot, can_be_raw, event_named, line_of, need_of, plays_script,
+};
+
+/// Which name of a line can't stand where it does.
+pub fn name_finding(
+    before: &Before,
+    head: Head,
+    parts: &PlacedParts<'_>,
+    behind: &[u8],
+) -> Finding {
+    if let Some(finding) = reserved_finding(parts) {
+        return finding;
+    }
+    let mut left = parts.again();
+    while let Some(part) = left.next() {
+        if let Some(finding) = part_finding(before, behind, part) {
+            return finding;
+        }
+        if is_observer(part.slot) {
+            if let Some(again) = same_name(part.text, &left) {
+                return of_part(Cause::ObserverTwice, again, ONCE);
+            }
+        }
+    }
+    match head {
+        Head::Allow => all_parts(Cause::AllowedTwice, parts),
+        _ => Finding::unmarked(Cause::OtherName, Accepted::Form(head)),
+    }
+}
+
+const ONCE: Accepted = Accepted::Text(b"the same said once");
+
+// All words behind the first.
+fn all_parts(cause: Cause, parts: &PlacedParts<'_>) -> Finding {
+    let mut left = parts.again();
+    let Some(first) = left.next() else {
+        return Finding::unmarked(cause, ONCE);
+    };
+    let mut end = first.from.saturating_add(first.text.len());
+    while let Some(part) = left.next() {
+        end = part.from.saturating_add(part.text.len());
+    }
+    Finding::at(cause, first.from, end.saturating_sub(first.from), ONCE)
+}
+
+fn of_part(cause: Cause, part: PlacedPart<'_>, accepted: Accepted) -> Finding {
+    Finding::at(cause, part.from, part.text.len(), accepted)
+}
+
+// The name that a word says, and what would be accepted in its place.
+fn asked(part: PlacedPart<'_>) -> Option<(&[u8], Accepted)> {
+    match part.slot {
+        Slot::New => Some((part.text, Accepted::NewName)),
+        Slot::Owner => Some((part.text, Accepted::Owner)),
+        Slot::Object(need) => Some((part.text, Accepted::Object(need))),
+        Slot::Rawable => Some((part.text, Accepted::Rawable)),
+        Slot::Event => {
+            let event = event_named(part.text)?;
+            Some((event.name, Accepted::Object(need_of(event.source))))
+        }
+        _ => None,
+    }
+}
+
+fn reserved_finding(parts: &PlacedParts<'_>) -> Option<Finding> {
+    let mut left = parts.again();
+    while let Some(part) = left.next() {
+        if let Some((name, accepted)) = asked(part) {
+            if !is_name(name) {
+                return Some(of_part(Cause::Reserved, part, accepted));
+            }
+        }
+    }
+    None
+}
+
+fn part_finding(before: &Before, behind: &[u8], part: PlacedPart<'_>) -> Option<Finding> {
+    let (name, accepted) = asked(part)?;
+    let cause = match (before.declared(name), accepted) {
+        (Some(_), Accepted::NewName) => Cause::DeclaredTwice,
+        (None, Accepted::NewName) => return None,
+        (Some(decl), _) => {
+            if is_met(accepted, decl) {
+                return None;
+            }
+            Cause::OtherKind
+        }
+        (None, _) => {
+            if is_declared_in(behind, name) {
+                Cause::DeclaredLater
+            } else {
+                Cause::Undeclared
+            }
+        }
+    };
+    Some(of_part(cause, part, accepted))
+}
+
+/// Whether what was declared would be accepted.
+pub fn is_met(accepted: Accepted, decl: &Decl) -> bool {
+    match accepted {
+        Accepted::Object(need) => need.is_met_by(kind_of(decl)),
+        Accepted::Owner => plays_script(kind_of(decl)),
+        Accepted::Rawable => can_be_raw(kind_of(decl)),
+        _ => false,
+    }
+}
+
+// Whether one of these lines declares this name.
+fn is_declared_in(lines: &[u8], name: &[u8]) -> bool {
+    let mut lines = Lines::of(lines);
+    while let Some(line) = lines.next() {
+        if let Line::Formed(Head::Declare(_), parts) = line_of(line) {
+            let mut parts = parts;
+            if let Some(part) = parts.next() {
+                if part.text == name {
+                    return true;
+                }
+            }
+        }
+    }
+    false
+}
+
+fn is_observer(slot: Slot) -> bool {
+    match slot {
+        Slot::Object(Need::Obs) => true,
+        _ => false,
+    }
+}
+
+// The next word that names the same observer.
+fn same_name<'a>(name: &[u8], parts: &PlacedParts<'a>) -> Option<PlacedPart<'a>> {
+    let mut left = parts.again();
+    while let Some(part) = left.next() {
+        if part.text == name {
+            return Some(part);
+        }
+    }
+    None
+}
