@@ -1,4 +1,4 @@
-/// What a core asks each time before it plays one of its players, so that a test can say in which order cores go on.
+/// What a core asks each time before it plays the player that it has taken, so that a test can say in which order cores go on.
 ///
 /// It says nothing of the run, and nothing of the run rests on it.
 pub trait Gate {

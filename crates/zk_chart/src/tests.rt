@@ -3,7 +3,7 @@ use std::alloc::Global;
 use std::test::Fail;
 use zk_base::{NoMemory, put, put_decimal};
 use zk_scenario::read_scenario;
-use zk_trace::{line_count, read_trace, split_text};
+use zk_trace::{read_trace, split_text};
 
 /// A run by round robin: the second player's give serves the first one's take, and a worker runs an item, whose flags are
 /// looked at.
@@ -13,6 +13,9 @@ const RUN: &[u8] =
       look b.1 busy i = r @2\nservice s\na.0 take wait = wait\nb.2 give = ok\na.1 takeend 0 = got\n\
       player a done\n1 take = 0\nplayer b done\n0 submit = 1\n1 busy = r\n2 give = 0\nplayer q done\n";
 
+/// The number of the line in which its trace begins.
+const FIRST_LINE: u32 = 15;
+
 /// The numbers and services of the rows of a chart, and whether the order agrees.
 fn said(alloc: Global, input: &[u8]) -> Result<Vec<u8>, NoMemory> {
     let mut said = Vec::new(alloc);
@@ -21,12 +24,11 @@ fn said(alloc: Global, input: &[u8]) -> Result<Vec<u8>, NoMemory> {
         put(&mut said, b"no scenario")?;
         return Ok(said);
     };
-    let first_line = line_count(front) as u32 + 1;
-    let Ok(trace) = read_trace(alloc, &scenario, text, first_line) else {
+    let Ok(trace) = read_trace(alloc, &scenario, text, FIRST_LINE) else {
         put(&mut said, b"no trace")?;
         return Ok(said);
     };
-    let chart = chart_of(alloc, &scenario, &trace, text, first_line)?;
+    let chart = chart_of(alloc, &scenario, &trace, text, FIRST_LINE)?;
     put(
         &mut said,
         if chart.agrees { b"agrees\n" } else { b"none\n" },

@@ -7,21 +7,21 @@ use Rattle.zk_queue.specs.Open.{marks_in}
 use Rattle.zk_queue.specs.Words.{has_flag}
 
 -- a test that holds of both
-abbrev both : (Bool → Bool) → Bool
+abbrev pub both : (Bool → Bool) → Bool
 both p = p true && p false
 
 from_both : (p : Bool → Bool) → both p ≡ true → (b : Bool) → p b ≡ true
 from_both p all true = (and_parts (p true) (p false) all).0
 from_both p all false = (and_parts (p true) (p false) all).1
 
-abbrev Test : Type 0
+abbrev pub Test : Type 0
 Test = Bool → Bool → Bool → Bool → Bool → Bool
 
-abbrev every : Test → Bool
+abbrev pub every : Test → Bool
 every p = both (λ r. both (λ c. both (λ q. both (λ d. both (λ f. p r c q d f)))))
 
 -- what holds of every word, holds of each
-from_every : (p : Test) → every p ≡ true → (r c q d f : Bool) → p r c q d f ≡ true
+pub from_every : (p : Test) → every p ≡ true → (r c q d f : Bool) → p r c q d f ≡ true
 from_every p all r c q d f =
     from_both (λ f. p r c q d f)
     (from_both (λ d. both (λ f. p r c q d f))

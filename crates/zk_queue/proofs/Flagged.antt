@@ -126,7 +126,7 @@ module _ (p : Option Ticket → Bool) where
       ap (λ b. p x || b) (any-set_here runs i run (omega arith) passes) ∙ or_true (p x)
 
 -- another item's ticket
-other-ticket : (j : ℕ) (t : Ticket) → j ≢ t.item → is_of j t ≡ false
+pub other-ticket : (j : ℕ) (t : Ticket) → j ≢ t.item → is_of j t ≡ false
 other-ticket j t differ = ne_eqb t.item j (λ same. differ (sym same))
 
 own-ticket : (t : Ticket) → is_of t.item t ≡ true
@@ -162,7 +162,7 @@ number-without j item (t ∷ ts) differ = at (is_of item t) refl (is_of j t) ref
       ap (λ b. option_map (λ (t : Ticket). t.number) (cond b (Some t) (find (is_of j) (without item ts)))) not_it ∙ rest
 
 -- an item waits as before, where another is admitted
-waits-push : (j : ℕ) (lines : List (List Ticket)) (queue : ℕ) (t : Ticket) → is_of j t ≡ false →
+pub waits-push : (j : ℕ) (lines : List (List Ticket)) (queue : ℕ) (t : Ticket) → is_of j t ≡ false →
     number_among j (set lines queue (get_or lines queue [] ++ t ∷ [])) ≡ number_among j lines
 waits-push j [] queue t differs = refl
 waits-push j (line ∷ lines) zero t differs = ap (λ (n : Option ℕ). option_or n (number_among j lines)) (number-push j line t differs)
@@ -186,7 +186,7 @@ waits-push_here j (line ∷ lines) (suc queue) t within its =
     (waits-push_here j lines queue t (omega arith) its)
 
 -- and where another is dropped
-waits-without : (j item : ℕ) (lines : List (List Ticket)) → j ≢ item → number_among j (map (without item) lines) ≡ number_among j lines
+pub waits-without : (j item : ℕ) (lines : List (List Ticket)) → j ≢ item → number_among j (map (without item) lines) ≡ number_among j lines
 waits-without j item [] differ = refl
 waits-without j item (line ∷ lines) differ =
     ap (λ (n : Option ℕ). option_or n (number_among j (map (without item) lines))) (number-without j item line differ)

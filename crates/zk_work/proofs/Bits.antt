@@ -1,31 +1,9 @@
 -- The bits of a word of busy flags that a cancel and a flush change, by trying all 32 words.
-use Rattle.std.proofs.Common.{◌≡◌, ◌-◌, ◌^◌, Bool, true, false, ◌&&◌, eqb, refl}
+use Rattle.std.proofs.Common.{◌≡◌, ◌-◌, ◌^◌, Bool, true, false, eqb, refl}
 use Rattle.std.specs.Int.RustNames.{bit_and, bit_or}
-use Rattle.std.proofs.lemmas.Bool.{eqb-true, and_parts}
+use Rattle.std.proofs.lemmas.Bool.{eqb-true}
 use Rattle.zk_model_work.specs.Questions.{busy_flags}
-
--- a test that holds of both
-abbrev both : (Bool → Bool) → Bool
-both p = p true && p false
-
-from_both : (p : Bool → Bool) → both p ≡ true → (b : Bool) → p b ≡ true
-from_both p all true = (and_parts (p true) (p false) all).0
-from_both p all false = (and_parts (p true) (p false) all).1
-
-abbrev Test : Type 0
-Test = Bool → Bool → Bool → Bool → Bool → Bool
-
-abbrev every : Test → Bool
-every p = both (λ r. both (λ c. both (λ q. both (λ d. both (λ f. p r c q d f)))))
-
--- what holds of every word, holds of each
-from_every : (p : Test) → every p ≡ true → (r c q d f : Bool) → p r c q d f ≡ true
-from_every p all r c q d f =
-    from_both (λ f. p r c q d f)
-    (from_both (λ d. both (λ f. p r c q d f))
-    (from_both (λ q. both (λ d. both (λ f. p r c q d f)))
-    (from_both (λ c. both (λ q. both (λ d. both (λ f. p r c q d f))))
-    (from_both (λ r. both (λ c. both (λ q. both (λ d. both (λ f. p r c q d f))))) all r) c) q) d) f
+use Rattle.zk_queue.proofs.Bits.{from_every}
 
 module _ (r c q d f : Bool) where
   pub cancelling-on : bit_or (busy_flags r c q d f) 2 ≡ busy_flags r true q d f

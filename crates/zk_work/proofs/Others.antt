@@ -1,52 +1,16 @@
 -- What an operation on one item leaves of the others: the admission by which each waits, and that by which it runs.
-use Rattle.std.proofs.Common.{◌≡◌, ◌≢◌, ℕ, zero, suc, Bool, true, false, cond, ltb, Option, Some, None, option_map, option_and_then, List, [], ◌∷◌, ◌++◌, length, map, set, get_or, find, refl, sym, ap, ◌∙◌}
+use Rattle.std.proofs.Common.{◌≡◌, ◌≢◌, ℕ, zero, suc, Bool, true, false, cond, ltb, Option, Some, None, option_map, option_and_then, List, [], ◌∷◌, ◌++◌, length, set, get_or, find, refl, sym, ap, ◌∙◌}
 use Rattle.std.specs.List.{position, position_or_len}
 use Rattle.std.specs.Option.{option_or}
-use Rattle.std.proofs.lemmas.Bool.{eqb-true, ne_eqb, false≢true}
+use Rattle.std.proofs.lemmas.Bool.{false≢true}
 use Rattle.std.proofs.lemmas.List.{length-set, get_or-set_other}
 use Rattle.std.proofs.lemmas.List.Folds.{position_or_len-set}
 use Rattle.std.proofs.lemmas.List.Quantifiers.{position-Some}
 use Rattle.std.proofs.lemmas.Option.{same_Some}
 use Rattle.zk_queue.specs.declared.ticket.Ticket.{Ticket}
-use Rattle.zk_queue.specs.Line.{is_of, without, number_in, number_among}
+use Rattle.zk_queue.specs.Line.{is_of, number_in, number_among}
+use Rattle.zk_queue.proofs.Flagged.{other-ticket, waits-push, waits-without}
 use Rattle.zk_queue.specs.Open.{Open, run, is_run_of, running, waiting, admit, drop_item, begun, end}
-
--- another item's ticket
-other : (j : ℕ) (t : Ticket) → j ≢ t.item → is_of j t ≡ false
-other j t differ = ne_eqb t.item j (λ same. differ (sym same))
-
-number-push : (j : ℕ) (line : List Ticket) (t : Ticket) → is_of j t ≡ false → number_in j (line ++ t ∷ []) ≡ number_in j line
-number-push j [] t differs = ap (λ b. option_map (λ (t : Ticket). t.number) (cond b (Some t) None)) differs
-number-push j (u ∷ line) t differs = at (is_of j u) (number-push j line t differs) where
-  at : (b : Bool) → number_in j (line ++ t ∷ []) ≡ number_in j line →
-      option_map (λ (t : Ticket). t.number) (cond b (Some u) (find (is_of j) (line ++ t ∷ [])))
-      ≡ option_map (λ (t : Ticket). t.number) (cond b (Some u) (find (is_of j) line))
-  at true rest = refl
-  at false rest = rest
-
-number-without : (j item : ℕ) (line : List Ticket) → j ≢ item → number_in j (without item line) ≡ number_in j line
-number-without j item [] differ = refl
-number-without j item (t ∷ ts) differ = at (is_of item t) refl (is_of j t) refl (number-without j item ts differ) where
-  at : (b : Bool) → is_of item t ≡ b → (e : Bool) → is_of j t ≡ e → number_in j (without item ts) ≡ number_in j ts →
-      number_in j (cond b ts (t ∷ without item ts))
-      ≡ option_map (λ (t : Ticket). t.number) (cond e (Some t) (find (is_of j) ts))
-  at true its true also rest = absurd (differ (sym (eqb-true t.item j also) ∙ eqb-true t.item item its))
-  at true its false not_it rest = refl
-  at false not_its true its rest = ap (λ b. option_map (λ (t : Ticket). t.number) (cond b (Some t) (find (is_of j) (without item ts)))) its
-  at false not_its false not_it rest =
-      ap (λ b. option_map (λ (t : Ticket). t.number) (cond b (Some t) (find (is_of j) (without item ts)))) not_it ∙ rest
-
-among-push : (j : ℕ) (lines : List (List Ticket)) (queue : ℕ) (t : Ticket) → is_of j t ≡ false →
-    number_among j (set lines queue (get_or lines queue [] ++ t ∷ [])) ≡ number_among j lines
-among-push j [] queue t differs = refl
-among-push j (line ∷ lines) zero t differs = ap (λ (n : Option ℕ). option_or n (number_among j lines)) (number-push j line t differs)
-among-push j (line ∷ lines) (suc queue) t differs = ap (option_or (number_in j line)) (among-push j lines queue t differs)
-
-among-without : (j item : ℕ) (lines : List (List Ticket)) → j ≢ item → number_among j (map (without item) lines) ≡ number_among j lines
-among-without j item [] differ = refl
-among-without j item (line ∷ lines) differ =
-    ap (λ (n : Option ℕ). option_or n (number_among j (map (without item) lines))) (number-without j item line differ)
-    ∙ ap (option_or (number_in j line)) (among-without j item lines differ)
 
 -- an item that is admitted gets this number, where it had none
 number-pushed : (j n : ℕ) (line : List Ticket) (t : Ticket) → number_in j line ≡ None → number_in j (line ++ t ∷ []) ≡ Some n →
@@ -114,16 +78,16 @@ run-set j runs queue r neither before o is = place ∙ by (position (is_run_of j
 module _ (o : Open) (j : ℕ) where
   pub waiting-admit : (item queue number : ℕ) → j ≢ item → waiting (admit o item queue number) j ≡ waiting o j
   waiting-admit item queue number differ =
-      let t : Ticket = record { item = item; number = number } in among-push j o.lines queue t (other j t differ)
+      let t : Ticket = record { item = item; number = number } in waits-push j o.lines queue t (other-ticket j t differ)
 
   pub waiting-drop : (item : ℕ) → j ≢ item → waiting (drop_item o item) j ≡ waiting o j
-  waiting-drop item differ = among-without j item o.lines differ
+  waiting-drop item differ = waits-without j item o.lines differ
 
   pub running-begun : (queue : ℕ) (t : Ticket) → run o queue ≡ None → j ≢ t.item → running (begun o queue t) j ≡ running o j
-  running-begun queue t idle differ = run-set j o.runs queue (Some t) (other j t differ) (ap (is_run_of j) idle) o refl
+  running-begun queue t idle differ = run-set j o.runs queue (Some t) (other-ticket j t differ) (ap (is_run_of j) idle) o refl
 
   pub running-end : (queue : ℕ) (t : Ticket) → run o queue ≡ Some t → j ≢ t.item → running (end o queue) j ≡ running o j
-  running-end queue t runs differ = run-set j o.runs queue None refl (ap (is_run_of j) runs ∙ other j t differ) o refl
+  running-end queue t runs differ = run-set j o.runs queue None refl (ap (is_run_of j) runs ∙ other-ticket j t differ) o refl
 
 -- and of the item that is admitted
 pub waiting-admitted : (o : Open) (item queue number n : ℕ) → waiting o item ≡ None →
