@@ -1,2 +1,5 @@
 pub mod RowOrder
 pub mod BarSteps
+pub mod Cuts
+pub mod TextLines
+pub mod SaidLines

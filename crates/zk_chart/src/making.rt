@@ -1,8 +1,7 @@
 ghost use Rattle.std.specs.Prelude.{◌≡◌, map, IfOk};
 ghost use Rattle.zk_trace.specs.Form.{IsInForm};
-ghost use Rattle.zk_trace.specs.Stood.{stood};
 ghost use Rattle.zk_chart.specs.Bars.{start, AreInOrder};
-ghost use Rattle.zk_chart.specs.Rows.{AreRows};
+ghost use Rattle.zk_chart.specs.Charts.{IsChart};
 
 use crate::lines::entry_lines;
 use crate::rows::{drawn_order, lines_at, rows_of};
@@ -21,9 +20,8 @@ pub fn chart_of<'a>(
     first_line: u32,
 ) -> Result<Chart<'a>, NoMemory>
     requires { IsInForm scenario.now trace.now }
-    ensures ending { IfOk result (λ chart. chart.ending ≡ trace.now.ending) }
-    ensures rows { IfOk result (λ chart. AreRows (stood trace.now) chart.agrees chart.rows.items) }
-    ensures bars { IfOk result (λ chart. AreInOrder (map start chart.bars.items)) }
+    ensures chart { IfOk result (λ chart. IsChart scenario.now trace.now text.now first_line chart) }
+    ensures order { IfOk result (λ chart. AreInOrder (map start chart.bars.items)) }
 {
     let _readable = scenario.decls();
     let stood = stood_lines(alloc, trace)?;

@@ -1,7 +1,8 @@
 ghost use Rattle.std.specs.Prelude.{◌≡◌, ℕ, ◌<◌, length, map, All, IfOk};
 ghost use Rattle.std.specs.List.{range_with_len};
 ghost use Rattle.zk_order.specs.Order.{lines_at};
-ghost use Rattle.zk_chart.specs.Rows.{AreDrawn, step_of_row, step_of_line};
+ghost use Rattle.zk_chart.specs.Lines.{line_said};
+ghost use Rattle.zk_chart.specs.Rows.{AreDrawn, row_said, said_of};
 
 use crate::Row;
 use crate::lines::Line;
@@ -44,10 +45,15 @@ pub fn lines_at(alloc: Global, stood: &[Stood], order: &[usize]) -> Result<Vec<S
     Ok(drawn)
 }
 
-/// The row of a step, whose line in the text is this.
-fn row_of<'a>(step: Stood, line: Line<'a>) -> Row<'a>
-    ensures { step_of_row result ≡ step_of_line step }
+/// The row of the step at a place, by its line in the text.
+#[tactic(auto, using(crate::proofs::SaidLines::said_at_place))]
+fn row_at<'a>(stood: &[Stood], lines: &[Line<'a>], place: usize) -> Row<'a>
+    requires within { place < length stood.now }
+    requires lines { length lines.now ≡ length stood.now }
+    ensures { row_said result ≡ said_of stood.now (map line_said lines.now) place }
 {
+    let step = stood[place];
+    let line = lines[place];
     Row {
         player: step.player,
         step: step.step,
@@ -66,11 +72,11 @@ pub fn rows_of<'a>(
 ) -> Result<Vec<Row<'a>>, NoMemory>
     requires within { All (λ place. place < length stood.now) order.now }
     requires lines { length lines.now ≡ length stood.now }
-    ensures { IfOk result (λ rows. map step_of_row rows.items ≡ map step_of_line (lines_at stood.now order.now)) }
+    ensures { IfOk result (λ rows. map row_said rows.items ≡ map (said_of stood.now (map line_said lines.now)) order.now) }
 {
     let mut rows = Vec::with_capacity(alloc, order.len())?;
     for place in order {
-        rows.push(row_of(stood[*place], lines[*place]))?;
+        rows.push(row_at(stood, lines, *place))?;
     }
     Ok(rows)
 }

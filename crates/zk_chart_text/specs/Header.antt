@@ -17,7 +17,9 @@ order_note agrees = if agrees then [] else no_order
 
 -- what the marks mean
 abbrev pub legend : Bool → List ℕ
-legend columns = if columns then codes "| a run or a script, : a wait\n\n" else codes "* a step, | a run or a script, : a wait\n\n"
+legend columns =
+    if columns then codes "| a run or a script, : a wait\n\n"
+    else codes "* a step, | a run or a script, : a wait\n\n"
 
 -- a name over its column
 abbrev pub name_cell : ℕ → List ℕ → List ℕ

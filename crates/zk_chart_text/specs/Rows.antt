@@ -22,7 +22,8 @@ lane_marks l bars row =
 -- a row but for what the player did: in columns with the service at its front
 abbrev pub background : Layout → List Bar → Row → List ℕ
 background l bars row =
-    fitted width ((if l.columns then fitted l.gutter row.service.now else []) ++ flat_map (lane_text l.width) (lane_marks l bars row))
+    fitted width ((if l.columns then fitted l.gutter row.service.now else []) ++
+    flat_map (lane_text l.width) (lane_marks l bars row))
 
 -- what the player did, where the lanes have no columns with its name and the service
 abbrev pub row_words : List Decl → Layout → Row → List ℕ

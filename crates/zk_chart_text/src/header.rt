@@ -27,7 +27,8 @@ fn put_cells(
     objects: &[u32],
     width: usize,
 ) -> Result<(), NoMemory>
-    ensures { OnOk result (out.new.items ≡ out.old.items ++ flat_map (λ object. name_cell width (name_at decls.now object)) objects.now) }
+    ensures { OnOk result (out.new.items ≡ out.old.items ++
+        flat_map (λ object. name_cell width (name_at decls.now object)) objects.now) }
 {
     for object in objects {
         out.push(b' ')?;
@@ -67,7 +68,8 @@ fn put_letters(
     width: usize,
     place: usize,
 ) -> Result<(), NoMemory>
-    ensures { OnOk result (out.new.items ≡ out.old.items ++ flat_map (λ object. letter_cell width place (name_at decls.now object)) objects.now) }
+    ensures { OnOk result (out.new.items ≡ out.old.items ++
+        flat_map (λ object. letter_cell width place (name_at decls.now object)) objects.now) }
 {
     for object in objects {
         out.push(letter(name_at(decls, *object), place))?;

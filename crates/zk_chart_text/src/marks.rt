@@ -34,7 +34,8 @@ fn marked(mark: u8, kind: BarKind) -> u8
 
 /// A bar marks its lane.
 fn mark_lane(marks: &mut Vec<u8>, bar: &Bar)
-    ensures { (bars : List Bar) (lanes : ℕ) → marks.old.items ≡ marks_from bars 0 lanes → marks.new.items ≡ marks_from (bars ++ bar.now ∷ []) 0 lanes }
+    ensures { (bars : List Bar) (lanes : ℕ) → marks.old.items ≡ marks_from bars 0 lanes →
+        marks.new.items ≡ marks_from (bars ++ bar.now ∷ []) 0 lanes }
 {
     let lane = bar.player as usize;
     if lane < marks.len() {

@@ -64,7 +64,8 @@ fn put_background(
     marks: &[u8],
     row: &Row<'_>,
 ) -> Result<(), NoMemory>
-    ensures { (bars : List Bar) → marks.now ≡ lane_marks layout.now bars row.now → OnOk result (line.new.items ≡ background layout.now bars row.now) }
+    ensures { (bars : List Bar) → marks.now ≡ lane_marks layout.now bars row.now →
+        OnOk result (line.new.items ≡ background layout.now bars row.now) }
 {
     line.clear();
     if layout.columns {

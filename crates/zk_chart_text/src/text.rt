@@ -9,7 +9,6 @@ use std::alloc::Global;
 use zk_base::{NoMemory, put};
 use zk_chart::Chart;
 use zk_scenario::Scenario;
-use zk_trace::ending_word;
 
 /// A chart as lines of text.
 fn text_of(alloc: Global, scenario: &Scenario, chart: &Chart<'_>) -> Result<Vec<u8>, NoMemory>
@@ -20,12 +19,10 @@ fn text_of(alloc: Global, scenario: &Scenario, chart: &Chart<'_>) -> Result<Vec<
     let layout = layout_of(scenario, &chart.rows);
     put_header(&mut text, scenario, &layout, chart.agrees)?;
     put_rows(&mut text, scenario, &layout, &chart.rows, &chart.bars)?;
-    put(&mut text, ending_word(chart.ending))?;
-    put(&mut text, b"\n")?;
     Ok(text)
 }
 
-/// Appends a chart as lines of text: what the marks mean, the names of the players, a line for each row, and how the run ended.
+/// Appends a chart as lines of text: what the marks mean, the names of the players, and a line for each row.
 pub fn put_text(out: &mut Vec<u8>, scenario: &Scenario, chart: &Chart<'_>) -> Result<(), NoMemory>
     // The bars stand by their first rows.
     requires { AreInOrder (map start chart.now.bars.items) }

@@ -25,13 +25,13 @@ use Rattle.zk_replay.specs.Replay.{IsReplay}
 use Rattle.zk_cli.specs.declared.form.Form.{Form}
 use Rattle.zk_cli.specs.declared.form.Form.TheVariants.{Replay, Check, Soak, Run}
 use Rattle.zk_cli.specs.declared.form.TheConstants.{LONGEST_TRACE, MOST_SOAK}
-use Rattle.zk_cli.specs.Input.{HasRead}
+use Rattle.zk_cli.specs.Input.{HasRead, GaveAtMost}
 use Rattle.zk_cli.specs.Output.{AppendsFront}
 use Rattle.zk_base.specs.declared.errors.NoMemory.{NoMemory as Want}
 use Rattle.zk_cli.specs.Answer.{IsPrinted, IsRun, IsRefusal, IsOutput, status_of}
 use Rattle.zk_cli.specs.CheckAnswer.{IsRefusedSo, too_long, no_scenario, no_trace, IsCheckOutput}
 use Rattle.zk_cli.specs.SoakAnswer.{IsSoakOutput}
-use Rattle.zk_cli.specs.Top.{form_of, limit_of, Reads, input_of, HasGiven, IsOutputOf, words_refused, Prints, PrintsFront, HasReadAll, IsAnswer, HasInput, MayRun, MayEnd, Answered, answered, cut_short, unmade, CallOutcome, no_form, no_form_cut, unread, no_memory, printed, cut}
+use Rattle.zk_cli.specs.Top.{form_of, limit_of, Reads, input_of, HasGiven, IsOutputOf, words_refused, Prints, PrintsFront, HasReadAll, IsAnswer, HasInput, MayRun, MayEnd, Answered, answered, cut_short, unmade, most_taken, CallOutcome, no_form, no_form_cut, unread, no_memory, printed, cut}
 
 -- what was not written to stays
 pub Keeps-same : (held : Option (List ℕ)) → Keeps held held
@@ -224,6 +224,15 @@ pub Went-for : (wanted given : Option Form) (left left' old new : Option (List �
     wanted ≡ given → CallOutcome given left left' old new reads reads' writes writes' status → CallOutcome wanted left left' old new reads reads' writes writes' status
 Went-for wanted given left left' old new reads reads' writes writes' status same went =
     subst (λ (w : Option Form). CallOutcome w left left' old new reads reads' writes writes' status) (sym same) went
+
+-- and took so much
+pub taken-for : (wanted given : Option Form) (left left' : Option (List ℕ)) → wanted ≡ given → GaveAtMost (most_taken given) left left' → GaveAtMost (most_taken wanted) left left'
+taken-for wanted given left left' same gave = subst (λ (w : Option Form). GaveAtMost (most_taken w) left left') (sym same) gave
+
+-- where nothing is read nothing is taken
+pub taken-none : (most : ℕ) (left : Option (List ℕ)) → GaveAtMost most left left
+taken-none most None = ([], omega arith, tt)
+taken-none most (Some input) = ([], omega arith, refl)
 
 -- no words of a form on one thread ask for cores
 pub never-cores : (words : List (List ℕ)) (cores : ℕ) → form_of words ≡ Some (Run cores) → ⊥

@@ -69,13 +69,15 @@ pub record IsFoundUnlawful (input output : List ℕ) : Type 0 where
   pub failure : IsFailure s t fail site
   pub printed : output ≡ unlawful_text (line_at s t site) fail
 
--- why an input isn't in the grammar: it is above the limit, its front isn't the text of a scenario, or a line behind that can't stand
--- in the text of a trace
+-- why an input isn't in the grammar: it is above the limit, its front isn't the text of a scenario, or a line behind that can't
+-- stand in the text of a trace
 pub data IsRefusedSo (input output : List ℕ) : Type 0 where
   too_long : LONGEST_TRACE < length input → output ≡ refusal_text 0 why.Length → IsRefusedSo input output
-  no_scenario : (front trace : List ℕ) → length input ≤ LONGEST_TRACE → AreParts input front trace → IsRefusal (scenario_of front) output → IsRefusedSo input output
+  no_scenario : (front trace : List ℕ) → length input ≤ LONGEST_TRACE → AreParts input front trace →
+      IsRefusal (scenario_of front) output → IsRefusedSo input output
   no_trace : (front trace : List ℕ) (s : Content) (line : ℕ) → length input ≤ LONGEST_TRACE → AreParts input front trace →
-      scenario_of front ≡ Ok s → IsRefusedAt s trace (1 + length (lines_in front)) line → output ≡ trace_refused line → IsRefusedSo input output
+      scenario_of front ≡ Ok s → IsRefusedAt s trace (1 + length (lines_in front)) line → output ≡ trace_refused line →
+      IsRefusedSo input output
 
 -- the input isn't in the grammar, and the output says where and why
 pub record IsTraceRefusal (input output : List ℕ) : Type 0 where

@@ -12,9 +12,9 @@ use Rattle.zk_worker.specs.Shown.{Shown}
 use Rattle.zk_trace.specs.declared.trace.Trace.{Trace}
 use Rattle.zk_trace.specs.Shown.{trace_shown}
 
--- the steps that a log's spots stand for lead the player from its start to the place that is logged; each poll that is answered has
--- its play among them, from where the player stood at its beginning, and keeps the laws of polls, unless a check failed that came
--- before it; and where the player stands at a poll that has no answer yet, this goes on by those laws
+-- the steps that a log's spots stand for lead the player from its start to the place that is logged; each poll that is answered
+-- has its play among them, from where the player stood at its beginning, and keeps the laws of polls, unless a check failed
+-- that came before it; and where the player stands at a poll that has no answer yet, this goes on by those laws
 pub record KeepsPolls (s : Content) (number : ℕ) (shown : Shown) (log : Log) : Type 0 where
   pub start : PlayerPlace
   pub starts : start_at s number ≡ Some start

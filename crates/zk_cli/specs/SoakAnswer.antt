@@ -28,7 +28,8 @@ soak_line number lines ending =
 abbrev pub soak_text : ℕ → Trace → List ℕ
 soak_text number t = soak_line number (stood t) t.ending
 
--- the trace is that of the round robin run of the generated scenario of this number, which ends so; it is lawful; and the output says so
+-- the trace is that of the round robin run of the generated scenario of this number, which ends so; it is lawful; and the
+-- output says so
 pub record IsSoak (ending : Ending) (number : ℕ) (output : List ℕ) : Type 0 where
   pub t : Trace
   pub run : IsReplay (soak_scenario number) t

@@ -11,9 +11,9 @@ use Rattle.zk_player_laws.specs.StateLaws.{IsStateOf}
 use Rattle.zk_trace.specs.declared.trace.Trace.{Trace}
 use Rattle.zk_trace.specs.Shown.{trace_shown}
 
--- the steps that a log's spots stand for lead the player from its start, where it has no answers, to the place that is logged; each
--- adds one answer at most, which is its own and its call's; and the log has all steps and answers of that place, and tells the
--- player's state there
+-- the steps that a log's spots stand for lead the player from its start, where it has no answers, to the place that is logged;
+-- each adds one answer at most, which is its own and its call's; and the log has all steps and answers of that place, and tells
+-- the player's state there
 pub record TellsItsPlayer (s : Content) (number : ℕ) (shown : Shown) (log : Log) : Type 0 where
   pub start : PlayerPlace
   pub starts : start_at s number ≡ Some start

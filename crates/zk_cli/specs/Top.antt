@@ -63,6 +63,14 @@ limit_of Check = LONGEST_TRACE
 limit_of (Run cores) = LONGEST_SCENARIO
 limit_of (Soak number) = 0
 
+-- how many bytes are taken of the source for a form, at the most: one above its limit, and none where it reads nothing
+abbrev pub most_taken : Option Form → ℕ
+most_taken None = 0
+most_taken (Some Replay) = LONGEST_SCENARIO + 1
+most_taken (Some Check) = LONGEST_TRACE + 1
+most_taken (Some (Run cores)) = LONGEST_SCENARIO + 1
+most_taken (Some (Soak number)) = 0
+
 -- the whole output of a form that goes with a status, for an input: of `replay` that of the round robin run, of `run` that of a
 -- lawful one
 abbrev pub IsOutputOf : Form → Status → List ℕ → List ℕ → Type 0

@@ -1,9 +1,10 @@
 ghost use Rattle.std.specs.Prelude.{◌≡◌, ◌≢◌, ◌⊎◌, ◌≤◌, Some, None, map, IfSome, string_bytes};
 ghost use Rattle.std.specs.Io.KnownBytes.{Appends, Keeps};
 ghost use Rattle.zk_base.specs.Causes.{Rose};
+ghost use Rattle.zk_cli.specs.Input.{GaveAtMost};
 ghost use Rattle.zk_cli.specs.Output.{AppendsFront};
 ghost use Rattle.zk_cli.specs.declared.form.Form.TheVariants.{Run};
-ghost use Rattle.zk_cli.specs.Top.{cores_form_of, input_of, IsOutputOf, words_refused, Prints, PrintsFront, HasReadAll, HasInput, MayEnd, CallOutcome};
+ghost use Rattle.zk_cli.specs.Top.{cores_form_of, input_of, IsOutputOf, words_refused, Prints, PrintsFront, HasReadAll, HasInput, MayEnd, CallOutcome, most_taken};
 
 use crate::answer::cores_output;
 use crate::form::{Form, cores_of, limit_of};
@@ -65,6 +66,8 @@ pub fn zk_run<R: Threads + Wait + Sync, S: Source, K: Sink, G: Gate + Sync>(
     // Where the input was read to its end, or to one byte above the form's limit.
     ensures read { (form : Form) → cores_form_of (map string_bytes words.now) ≡ Some form → HasInput result →
         HasReadAll form (S.left source.old) (S.left source.new) }
+    // However it ends, no more is taken than that.
+    ensures most { GaveAtMost (most_taken (cores_form_of (map string_bytes words.now))) (S.left source.old) (S.left source.new) }
 {
     run(rt, alloc, words, source, sink, gate)
 }
@@ -77,7 +80,9 @@ fn run<R: Threads + Wait + Sync, S: Source, K: Sink, G: Gate + Sync>(
     sink: &mut K,
     gate: &G,
 ) -> Status
-    ensures went { CallOutcome (cores_form_of (map string_bytes words.now)) (S.left source.old) (S.left source.new) (K.held sink.old) (K.held sink.new)
+    ensures most { GaveAtMost (most_taken (cores_form_of (map string_bytes words.now))) (S.left source.old) (S.left source.new) }
+    ensures went { CallOutcome (cores_form_of (map string_bytes words.now)) (S.left source.old) (S.left source.new) (K.held
+        sink.old) (K.held sink.new)
         (S.faults source.old) (S.faults source.new) (K.faults sink.old) (K.faults sink.new) result }
     ensures reads { result ≢ Status.ReadFault → S.faults source.new ≡ S.faults source.old }
     ensures writes { result ≢ Status.WriteFault → K.faults sink.new ≡ K.faults sink.old }
@@ -98,6 +103,7 @@ fn answer_run<R: Threads + Wait + Sync, S: Source, K: Sink, G: Gate + Sync>(
     gate: &G,
 ) -> Status
     requires cores { 1 ≤ cores }
+    ensures most { GaveAtMost (most_taken (Some (Run cores))) (S.left source.old) (S.left source.new) }
     ensures went { CallOutcome (Some (Run cores)) (S.left source.old) (S.left source.new) (K.held sink.old) (K.held sink.new)
         (S.faults source.old) (S.faults source.new) (K.faults sink.old) (K.faults sink.new) result }
     ensures reads { result ≢ Status.ReadFault → S.faults source.new ≡ S.faults source.old }

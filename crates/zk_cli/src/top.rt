@@ -1,9 +1,10 @@
 ghost use Rattle.std.specs.Prelude.{◌≡◌, ◌≢◌, ◌⊎◌, Some, None, map, IfSome, string_bytes};
 ghost use Rattle.std.specs.Io.KnownBytes.{Appends, Keeps};
 ghost use Rattle.zk_base.specs.Causes.{Rose};
+ghost use Rattle.zk_cli.specs.Input.{GaveAtMost};
 ghost use Rattle.zk_cli.specs.Output.{AppendsFront};
 ghost use Rattle.zk_cli.specs.declared.form.Form.TheVariants.{Replay, Check};
-ghost use Rattle.zk_cli.specs.Top.{form_of, input_of, IsOutputOf, words_refused, Prints, PrintsFront, HasReadAll, HasInput, MayEnd, CallOutcome};
+ghost use Rattle.zk_cli.specs.Top.{form_of, input_of, IsOutputOf, words_refused, Prints, PrintsFront, HasReadAll, HasInput, MayEnd, CallOutcome, most_taken};
 
 use crate::answer::output_of;
 use crate::check::check_output;
@@ -65,6 +66,8 @@ pub fn zk_plain<S: Source, K: Sink>(
     // Where the input was read to its end, or to one byte above the form's limit.
     ensures read { (form : Form) → form_of (map string_bytes words.now) ≡ Some form → HasInput result →
         HasReadAll form (S.left source.old) (S.left source.new) }
+    // However it ends, no more is taken than that.
+    ensures most { GaveAtMost (most_taken (form_of (map string_bytes words.now))) (S.left source.old) (S.left source.new) }
 {
     plain(alloc, words, source, sink)
 }
@@ -75,7 +78,9 @@ fn plain<S: Source, K: Sink>(
     source: &mut S,
     sink: &mut K,
 ) -> Status
-    ensures went { CallOutcome (form_of (map string_bytes words.now)) (S.left source.old) (S.left source.new) (K.held sink.old) (K.held sink.new)
+    ensures most { GaveAtMost (most_taken (form_of (map string_bytes words.now))) (S.left source.old) (S.left source.new) }
+    ensures went { CallOutcome (form_of (map string_bytes words.now)) (S.left source.old) (S.left source.new) (K.held
+        sink.old) (K.held sink.new)
         (S.faults source.old) (S.faults source.new) (K.faults sink.old) (K.faults sink.new) result }
     ensures reads { result ≢ Status.ReadFault → S.faults source.new ≡ S.faults source.old }
     ensures writes { result ≢ Status.WriteFault → K.faults sink.new ≡ K.faults sink.old }
@@ -91,6 +96,7 @@ fn plain<S: Source, K: Sink>(
 
 /// Reads the input of `replay`, and prints the output for it.
 fn answer_replay<S: Source, K: Sink>(alloc: Global, source: &mut S, sink: &mut K) -> Status
+    ensures most { GaveAtMost (most_taken (Some Replay)) (S.left source.old) (S.left source.new) }
     ensures went { CallOutcome (Some Replay) (S.left source.old) (S.left source.new) (K.held sink.old) (K.held sink.new)
         (S.faults source.old) (S.faults source.new) (K.faults sink.old) (K.faults sink.new) result }
     ensures reads { result ≢ Status.ReadFault → S.faults source.new ≡ S.faults source.old }
@@ -105,6 +111,7 @@ fn answer_replay<S: Source, K: Sink>(alloc: Global, source: &mut S, sink: &mut K
 
 /// Reads the input of `check`, and prints the output for it.
 fn answer_check<S: Source, K: Sink>(alloc: Global, source: &mut S, sink: &mut K) -> Status
+    ensures most { GaveAtMost (most_taken (Some Check)) (S.left source.old) (S.left source.new) }
     ensures went { CallOutcome (Some Check) (S.left source.old) (S.left source.new) (K.held sink.old) (K.held sink.new)
         (S.faults source.old) (S.faults source.new) (K.faults sink.old) (K.faults sink.new) result }
     ensures reads { result ≢ Status.ReadFault → S.faults source.new ≡ S.faults source.old }

@@ -10,7 +10,8 @@ use Rattle.zk_kernel.specs.Rests.{Left}
 
 -- none of the first so many players has a possible attempt
 abbrev pub NoneOf : ℕ → Content → World → Type 0
-NoneOf many s w = (p : ℕ) (at : PlayerPlace) → p < many → slice_get w.players p ≡ Some at → chosen (machines_of s) s w.shown at ≡ None
+NoneOf many s w = (p : ℕ) (at : PlayerPlace) → p < many → slice_get w.players p ≡ Some at →
+    chosen (machines_of s) s w.shown at ≡ None
 
 -- no player has a possible attempt
 abbrev pub NoneGoesOn : Content → World → Type 0

@@ -85,8 +85,8 @@ fn play_round<R: Wait, G: Gate>(
     Ok(moved)
 }
 
-/// Plays as far as it gets, once the other cores have come too. After a round without a step it looks away, the longer the more such
-/// rounds there were.
+/// Plays as far as it gets, once the other cores have come too. After a round without a step it looks away, the longer the more
+/// such rounds there were.
 fn play_core<R: Wait, G: Gate>(
     rt: &R,
     kernel: &Kernel,

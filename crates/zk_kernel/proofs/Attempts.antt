@@ -14,7 +14,7 @@ use Rattle.zk_worker.specs.Families.{Family, with_entry, answer_at, EachGrew}
 use Rattle.zk_worker.specs.Machines.{Machines}
 use Rattle.zk_worker.specs.Shown.{Shown, shown_after, AllGrew}
 use Rattle.zk_worker.specs.Attempt.{reply_in, Attempted, ReadsAt}
-use Rattle.std.specs.Result.{IsErr}
+use Rattle.std.specs.Result.{IsErr, OnErr}
 use Rattle.std.specs.Option.{option_map_or}
 use Rattle.zk_model_work.specs.declared.ops.WorkOp.{WorkOp}
 use Rattle.zk_model_work.specs.declared.ops.WorkOp.TheVariants as work_ops
@@ -36,6 +36,7 @@ use Rattle.zk_kernel.specs.declared.passes.Passes.{Passes}
 use Rattle.zk_kernel.specs.Desks.{cells_machines, desk_shown}
 use Rattle.zk_kernel.specs.Seats.{Visited, seen_at}
 use Rattle.zk_kernel.specs.Rows.{VisitedAt}
+use Rattle.zk_kernel.specs.Memory.{wants_none}
 use Rattle.zk_kernel.proofs.Desks.{grows-work}
 
 -- an attempt at a service of which there is one: what is shown is `write` of its history
@@ -87,6 +88,19 @@ pub when-err : (m : Machines) (who : Who) (number : ℕ) (step : Step) (old new 
     Attempted false m who number step old new result
 when-err m who number step old new (Ok reply) err grew = absurd (cc)
 when-err m who number step old new (Err e) err grew = grew
+
+-- a step that wanted memory is none of those that want none
+pub none-wanted : (m : Machines) (shown : Shown) (who : Who) (step asked : Step) (result : Result (Option StepReply) NoMemory) → asked ≡ step → wants_none m shown who step ≡ false →
+    OnErr result (wants_none m shown who asked ≡ false)
+none-wanted m shown who step asked (Ok reply) is none = tt
+none-wanted m shown who step asked (Err e) is none = ap (wants_none m shown who) is ∙ none
+
+-- and it is told of the kernel's machines and the caller's player
+pub memory-told : (m machines : Machines) (shown : Shown) (w who : Who) (step : Step) (result : Result (Option StepReply) NoMemory) → m ≡ machines → w ≡ who → wants_none m shown w step ≡ false →
+    OnErr result (wants_none machines shown who step ≡ false)
+memory-told m machines shown w who step (Ok reply) same is none = tt
+memory-told m machines shown w who step (Err e) same is none =
+    sym (ap (λ (m : Machines). wants_none m shown w step) same ∙ ap (λ (w : Who). wants_none machines shown w step) is) ∙ none
 
 -- looks
 in_range-after : (start : State) (h : List (Entry WorkOp WorkReply)) → in_range (state_after work_machine start h) ≡ in_range start

@@ -1,12 +1,13 @@
 -- The cells of one kind, and the passes of them, one of which is used.
-use Rattle.std.proofs.Common.{◌≡◌, ◌≢◌, ℕ, zero, suc, ◌<◌, true, Some, None, Ok, Err, is_some, Option, Result, List, [], ◌∷◌, ◌++◌, length, set, get_or, refl, sym, ap, subst, ◌∙◌, arith}
+use Rattle.std.proofs.Common.{◌≡◌, ◌≢◌, ℕ, zero, suc, ◌<◌, Bool, true, false, Some, None, Ok, Err, is_some, Option, Result, List, [], ◌∷◌, ◌++◌, length, set, get_or, refl, sym, ap, subst, ◌∙◌, arith}
 use Rattle.std.specs.List.{slice_get}
 use Rattle.std.specs.Option.{option_map}
+use Rattle.std.specs.Result.{OnErr}
 use Rattle.std.proofs.lemmas.Option.{slice_get_read}
 use Rattle.zk_base.specs.declared.ids.Who.{Who}
 use Rattle.zk_base.specs.declared.ids.Entry.{Entry}
 use Rattle.zk_base.specs.declared.errors.NoMemory.{NoMemory}
-use Rattle.zk_base.specs.Legal.{Machine}
+use Rattle.zk_base.specs.Legal.{Machine, state_after}
 use Rattle.zk_base.specs.History.{entry}
 use Rattle.zk_turn.specs.declared.pass.Pass.{Pass}
 use Rattle.zk_turn.specs.declared.cell.Cell.{Cell}
@@ -16,7 +17,7 @@ use Rattle.zk_worker.specs.Single.{answer_in, OthersGrew}
 use Rattle.zk_worker.specs.Families.{with_entry, start_of, answer_at, takes_at, EachGrew}
 use Rattle.zk_worker.proofs.Between.{grew-none, grew-none_each}
 use Rattle.zk_kernel.specs.Seats.{Visited, seen_at, holds_at}
-use Rattle.zk_kernel.specs.Rows.{family, seen_all, holds_in, IsSeat, AreSeats, takes_in, VisitedAt}
+use Rattle.zk_kernel.specs.Rows.{family, seen_all, holds_in, closes_at, IsSeat, AreSeats, takes_in, VisitedAt}
 
 module _ {S O R T : Type 0} (m : Machine T O R) (start : S → T) where
   -- an object that takes an operation has a cell
@@ -170,3 +171,26 @@ module _ {S O R T : Type 0} (m : Machine T O R) (start : S → T) (who : Who) (s
   )
   visited-among cs ps i c old new (Err e) there found within visited =
       subst (EachGrew who.number (seen_all ps)) (sym (seen-set ps i new)) (grew-at who ps i old (seen_at new) found visited)
+
+module _ {S O R T : Type 0} (closes : T → Who → O → Bool) (m : Machine T O R) (start : S → T) (who : Who) (op : O) where
+  -- whether an operation gives an owed entry there
+  closes-there : (cs : List (Option (Cell S O R T))) (hs : List (List (Entry O R))) (i : ℕ) (c : Cell S O R T) (h : List (Entry O R)) → slice_get cs i ≡ Some (Some c) → slice_get hs i ≡ Some h →
+      closes_at closes (family m start cs) hs who i op ≡ closes (state_after m (start (given_to c)) h) who op
+  closes-there [] hs i c h there found = absurd (cc)
+  closes-there (x ∷ xs) [] i c h there found = absurd (cc)
+  closes-there (x ∷ xs) (g ∷ gs) zero c h there found =
+      let one : x ≡ Some c = cc in
+      let two : g ≡ h = cc in
+      ap (λ (o : Option (Cell S O R T)). closes_at closes (family m start (o ∷ xs)) (g ∷ gs) who zero op) one
+      ∙ ap (λ (k : List (Entry O R)). closes (state_after m (start (given_to c)) k) who op) two
+  closes-there (x ∷ xs) (g ∷ gs) (suc i) c h there found = closes-there xs gs i c h there found
+
+  -- want of memory at a cell is one at the object of its number
+  pub memory-among : (cs : List (Option (Cell S O R T))) (ps : List (Option (Pass S O R T))) (i : ℕ) (c : Cell S O R T) (new : Option (Pass S O R T)) (result : Result (Option (R × ℕ)) NoMemory) →
+      slice_get cs i ≡ Some (Some c) → i < length ps → OnErr result (closes (state_after m (start (given_to c)) (seen_at new)) who op ≡ false) →
+      OnErr result (closes_at closes (family m start cs) (seen_all (set ps i new)) who i op ≡ false)
+  memory-among cs ps i c new (Ok made) there within none = tt
+  memory-among cs ps i c new (Err e) there within none =
+      ap (λ (hs : List (List (Entry O R))). closes_at closes (family m start cs) hs who i op) (seen-set ps i new)
+      ∙ closes-there cs (set (seen_all ps) i (seen_at new)) i c (seen_at new) there (set-there (seen_all ps) i (seen_at new) (let l = seen-long ps in omega arith))
+      ∙ none

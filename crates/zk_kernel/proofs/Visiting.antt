@@ -1,5 +1,5 @@
 -- One attempt with a pass that stands for one player.
-use Rattle.std.proofs.Common.{◌≡◌, ◌≢◌, ℕ, ◌+◌, ◌<◌, ◌≤◌, true, false, ◌||◌, Some, None, List, [], ◌∷◌, ◌++◌, length, refl, sym, ap, subst, ◌∙◌, arith, eq-eqb}
+use Rattle.std.proofs.Common.{◌≡◌, ◌≢◌, ℕ, ◌+◌, ◌<◌, ◌≤◌, Bool, true, false, ◌||◌, Some, None, List, [], ◌∷◌, ◌++◌, length, refl, sym, ap, subst, ◌∙◌, arith, eq-eqb}
 use Rattle.std.proofs.lemmas.Bool.{eq-eqb, ne_eqb}
 use Rattle.std.proofs.lemmas.List.Elements.{All-head, All-append, All-weaker}
 use native.Mathlib.Decide.{ℕ_discrete}
@@ -102,6 +102,10 @@ module _ {S O R T : Type 0} (legal : T → List (Entry O R) → Type 0) (start :
       room = λ next over le. let room = was.room step above low in omega arith;
     }
 
+no-true : (b : Bool) → (b ≡ true → ⊥) → b ≡ false
+no-true true not = absurd (not refl)
+no-true false not = refl
+
 module _ {O R T : Type 0} where
   pub entered : (m : Machine T O R) (start start' : T) (who who' : Who) (step : ℕ) (op : O) (reply : R) (place : ℕ) (old found new made : List (Entry O R)) →
       start' ≡ start → who' ≡ who → Some reply ≡ m.reply_of (state_after m start' found) who' op → place ≡ length found → OthersGrew who.number old found →
@@ -114,6 +118,15 @@ module _ {O R T : Type 0} where
         at_place = at_place;
         entered = is ∙ grew ∙ ap (λ (w : Who). found ++ entry w step op reply ∷ []) player;
       }
+
+  -- an operation that wanted memory gives no owed entry at what is seen
+  pub not-closing : (closes : T → Who → O → Bool) (m : Machine T O R) (start start' : T) (who who' : Who) (op : O) (found new made : List (Entry O R)) →
+      start' ≡ start → who' ≡ who → (closes (state_after m start' found) who' op ≡ true → ⊥) → new ≡ made → made ≡ found → closes (state_after m start new) who op ≡ false
+  not-closing closes m start start' who who' op found new made same player not is same_history =
+      no-true (closes (state_after m start new) who op) (λ yes. not
+      (subst (λ (w : Who). closes (state_after m start' found) w op ≡ true) (sym player)
+      (subst (λ (s : T). closes (state_after m s found) who op ≡ true) (sym same)
+      (subst (λ (l : List (Entry O R)). closes (state_after m start l) who op ≡ true) (is ∙ same_history) yes))))
 
   -- the machine says no at what is seen
   pub refused : (m : Machine T O R) (start start' : T) (who who' : Who) (op : O) (found new made : List (Entry O R)) →

@@ -75,13 +75,15 @@ pub record AllBy (ws : List Who) (shown : Shown) : Type 0 where
 
 -- of two notes of one player at one signal, the one of the lower stamp was made first
 abbrev pub IsInStep : Note → Note → Type 0
-IsInStep n m = n.signal ≡ m.signal → n.entry.who.number ≡ m.entry.who.number → stamp_noted n < stamp_noted m → step_noted n < step_noted m
+IsInStep n m = n.signal ≡ m.signal → n.entry.who.number ≡ m.entry.who.number → stamp_noted n < stamp_noted m →
+    step_noted n < step_noted m
 
 -- each two of them
 abbrev pub AreInStep : List Note → Type 0
 AreInStep notes = (n m : Note) → Contains notes n → Contains notes m → IsInStep n m
 
--- a signal's writes were played in the order of their stamps, which are 1, 2 and so on; and each look found the value of its stamp
+-- a signal's writes were played in the order of their stamps, which are 1, 2 and so on; and each look found the value of its
+-- stamp
 pub record IsPlayed (own : List Write) (found : List Seen) (signal : RecordedView Signal SignalOp SignalReply) : Type 0 where
   pub whole : IsPermutation own (signal_history signal)
   pub order : CountsFrom 0 (map stamp_of (signal_history signal))

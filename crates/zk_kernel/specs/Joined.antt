@@ -51,13 +51,15 @@ module _ {S O R T : Type 0} where
   StandsFor legal start ws c (Some p) = IsFor legal start c ws p
 
   -- where there is a cell
-  abbrev pub StandsIn : (T → List (Entry O R) → Type 0) → (S → T) → List Who → Option (Cell S O R T) → Option (Pass S O R T) → Type 0
+  abbrev pub StandsIn : (T → List (Entry O R) → Type 0) → (S → T) → List Who → Option (Cell S O R T) →
+      Option (Pass S O R T) → Type 0
   StandsIn legal start ws None None = Unit {0}
   StandsIn legal start ws None (Some p) = ⊥
   StandsIn legal start ws (Some c) p = StandsFor legal start ws c p
 
   -- one for each cell of a kind
-  abbrev pub AllStand : (T → List (Entry O R) → Type 0) → (S → T) → List Who → List (Option (Cell S O R T)) → List (Option (Pass S O R T)) → Type 0
+  abbrev pub AllStand : (T → List (Entry O R) → Type 0) → (S → T) → List Who → List (Option (Cell S O R T)) →
+      List (Option (Pass S O R T)) → Type 0
   AllStand legal start ws cells passes = AllZip (StandsIn legal start ws) cells passes
 
 module _ {O R : Type 0} where
@@ -156,7 +158,8 @@ pub record IsAmong (ws : List Who) (all : Passes) (c : Caller) : Type 0 where
 pub record AreGathered (c : Cells) (callers : List Caller) (all : Passes) : Type 0 where
   pub stand : AreFor c (players_of callers) all
   pub notes : all.notes.items ≡ all_noted callers
-  pub signals : HaveShared (numbers_of (players_of callers)) (left_at (all_noted callers)) (all_found callers) c.signals.items all.signals.items
+  pub signals : HaveShared (numbers_of (players_of callers)) (left_at (all_noted callers)) (all_found callers)
+      c.signals.items all.signals.items
   pub kept : All (IsAmong (players_of callers) all) callers
 
 -- the passes of these callers were put together: as long as there are none there is no pass

@@ -6,6 +6,7 @@ pub mod Desks
 pub mod Joined
 pub mod Kernels
 pub mod Lasting
+pub mod Memory
 pub mod Notes
 pub mod Opened
 pub mod Quick

@@ -120,6 +120,7 @@ pub record WroteAmong (signals : List (Option SharedSignal)) (object : ℕ) (who
   pub noted : after ≡ before ++ record { signal = object; entry = entry who step op (Stamp stamp) } ∷ []
 
 -- the pass of the signal of this number has looked
-pub record FoundAmong (signals : List (Option SharedSignal)) (object : ℕ) (seen : Seen) (old new : List (Option SigPass)) : Type 0 where
+pub record FoundAmong (signals : List (Option SharedSignal)) (object : ℕ) (seen : Seen) (old new : List (Option SigPass)) :
+    Type 0 where
   pub used : IsUsedAt signals object old new
   pub made : HasFound used.signal used.before seen used.after

@@ -1,5 +1,5 @@
-ghost use Rattle.std.specs.Prelude.{◌≡◌, ◌+◌, ◌<◌, ◌≤◌, true, ℕ};
-ghost use Rattle.zk_base.specs.Legal.{IsLegal};
+ghost use Rattle.std.specs.Prelude.{◌≡◌, ◌+◌, ◌<◌, ◌≤◌, true, false, ℕ, OnErr};
+ghost use Rattle.zk_base.specs.Legal.{IsLegal, state_after};
 ghost use Rattle.zk_base.specs.History.{IsAbove};
 ghost use Rattle.zk_turn.specs.Players.{room_of_a_pass};
 ghost use Rattle.zk_turn.specs.Passes.{given_to};
@@ -26,6 +26,9 @@ pub fn visit<S: Service, R: Wait>(
         IsAt (IsLegal S.machine) S.start cell.now who looked seat.new }
     ensures visited { Visited S.machine (S.start (given_to cell.now)) who step op (seen_at seat.old) (seen_at seat.new) result }
     ensures holds { holds_at seat.new ≡ holds_at seat.old + 1 }
+    // An operation whose room an earlier entry took wants no memory.
+    ensures memory { OnErr result (S.closes (state_after S.machine (S.start (given_to cell.now)) (seen_at seat.new)) who op ≡
+        false) }
 {
     let Some(pass) = seat.take() else {
         unreachable!()

@@ -1,13 +1,13 @@
-ghost use Rattle.std.specs.Prelude.{◌≡◌, ◌+◌, ◌<◌, ◌≢◌, true, ℕ, length, slice_get, Some, Option, List};
+ghost use Rattle.std.specs.Prelude.{◌≡◌, ◌+◌, ◌<◌, ◌≢◌, true, false, ℕ, length, slice_get, Some, Option, List, OnErr};
 ghost use Rattle.zk_base.specs.declared.ids.Entry.{Entry};
-ghost use Rattle.zk_base.specs.Legal.{IsLegal};
+ghost use Rattle.zk_base.specs.Legal.{IsLegal, state_after};
 ghost use Rattle.zk_base.specs.History.{IsAbove};
 ghost use Rattle.zk_turn.specs.Players.{room_of_a_pass};
 ghost use Rattle.zk_turn.specs.declared.cell.Cell.{Cell};
 ghost use Rattle.zk_turn.specs.Passes.{given_to};
 ghost use Rattle.zk_worker.specs.Families.{takes_at};
 ghost use Rattle.zk_kernel.specs.Seats.{Visited, seen_at, holds_at};
-ghost use Rattle.zk_kernel.specs.Rows.{family, seen_all, holds_in, IsSeat, AreSeats, takes_in, VisitedAt};
+ghost use Rattle.zk_kernel.specs.Rows.{family, seen_all, holds_in, closes_at, IsSeat, AreSeats, takes_in, VisitedAt};
 
 use crate::at_cell::visit;
 use std::sync::Wait;
@@ -31,6 +31,8 @@ fn visit_one<S: Service, R: Wait>(
     ensures visited { (c : Cell S S.Op S.Reply S.State) → cell.now ≡ Some c →
         Visited S.machine (S.start (given_to c)) who step op (seen_at seat.old) (seen_at seat.new) result }
     ensures holds { holds_at seat.new ≡ holds_at seat.old + 1 }
+    ensures memory { (c : Cell S S.Op S.Reply S.State) → cell.now ≡ Some c →
+        OnErr result (S.closes (state_after S.machine (S.start (given_to c)) (seen_at seat.new)) who op ≡ false) }
 {
     let Some(cell) = cell else { unreachable!() };
     visit(rt, cell, seat, who, step, op)
@@ -55,6 +57,8 @@ pub fn visit_at<S: Service, R: Wait>(
     ensures visited { VisitedAt (family S.machine S.start cells.now) who step object op
         (seen_all seats.old.items) (seen_all seats.new.items) result }
     ensures holds { holds_in seats.new.items object ≡ holds_in seats.old.items object + 1 }
+    ensures memory { OnErr result (closes_at S.closes (family S.machine S.start cells.now)
+        (seen_all seats.new.items) who object op ≡ false) }
     ensures others { (i : ℕ) → i ≢ object → holds_in seats.new.items i ≡ holds_in seats.old.items i }
 {
     let object = object as usize;

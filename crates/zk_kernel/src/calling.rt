@@ -1,10 +1,11 @@
-ghost use Rattle.std.specs.Prelude.{◌≡◌, nat_le, length, IfOk, true, false, Some, None};
+ghost use Rattle.std.specs.Prelude.{◌≡◌, nat_le, length, IfOk, OnErr, true, false, Some, None};
 ghost use Rattle.zk_worker.specs.Attempt.{Attempted};
 ghost use Rattle.zk_base.specs.Causes.{Rose};
 ghost use Rattle.zk_worker.specs.Machines.{machines_of};
 ghost use Rattle.zk_worker.specs.Protocol.{IsAhead};
 ghost use Rattle.zk_kernel.specs.Callers.{IsCaller, place_of, shown_to, counts_of, is_stopped, lives, attempted_at};
 ghost use Rattle.zk_kernel.specs.Calling.{Moment, moment_of, HasCalled, stops_by};
+ghost use Rattle.zk_kernel.specs.Memory.{wants_none};
 ghost use Rattle.zk_worker.specs.Next.{next_call};
 ghost use Rattle.zk_kernel.specs.Within.{IsUnderWay, GoesOrGives, answer_since};
 ghost use Rattle.zk_worker.specs.Follows.{is_through};
@@ -40,6 +41,10 @@ impl Caller {
         ensures place { place_of self.new ≡ attempted_at kernel.now.scenario (place_of self.old) step.now result }
         ensures rose { IfOk result (λ reply. reply ≡ None →
             Rose (counts_of self.old step.now) (counts_of self.new step.now)) }
+
+        // A step that ends what an earlier one began wants no memory, nor does one that takes no turn.
+        ensures memory { OnErr result (wants_none (machines_of kernel.now.scenario) (shown_to self.new)
+            (place_of self.old).who step.now ≡ false) }
 
         // It is a caller of this kernel still, of the same player.
         ensures own { IsCaller kernel.now self.new }

@@ -1,3 +1,11 @@
+ghost use Rattle.std.specs.Prelude.{◌≡◌, ◌<◌, true, false, None, IfOk, OnErr};
+ghost use Rattle.zk_base.specs.Causes.{Rose};
+ghost use Rattle.zk_scenario.specs.declared.scenario.TheConstants.{MOST_STEPS};
+ghost use Rattle.zk_worker.specs.Attempt.{is_in_range, Attempted, KeepsElsewhere, NoneFell, SamePlayers};
+ghost use Rattle.zk_worker.specs.Shown.{IsLater};
+ghost use Rattle.zk_kernel.specs.Desks.{cells_machines, IsServed, desk_shown, desk_counts};
+ghost use Rattle.zk_kernel.specs.Memory.{wants_none};
+
 use crate::at_cell::visit;
 use crate::at_cells::visit_at;
 use crate::cells::Cells;
@@ -17,9 +25,6 @@ pub struct Desk<'a, R: Wait> {
 impl<'a, R: Wait> Services for Desk<'a, R> {
     type Home = Cells;
 
-    ghost use Rattle.std.specs.Prelude.{false};
-    ghost use Rattle.zk_kernel.specs.Desks.{cells_machines, IsServed, desk_shown, desk_counts};
-
     ghost home = { λ d. d.cells.now };
 
     ghost machines = { λ d. cells_machines d.cells.now };
@@ -32,12 +37,24 @@ impl<'a, R: Wait> Services for Desk<'a, R> {
 
     ghost counts = { λ d. desk_counts d.passes };
 
-    fn attempt(
-        &mut self,
-        who: Who,
-        number: u32,
-        step: &Step,
-    ) -> Result<Option<StepReply>, NoMemory> {
+    fn attempt(&mut self, who: Who, number: u32, step: &Step) -> Result<Option<StepReply>, NoMemory>
+        requires served { IsServed self.old.cells.now self.old.passes who }
+        requires range { is_in_range (cells_machines self.old.cells.now) step.now ≡ true }
+        requires number { number < MOST_STEPS }
+        requires later { IsLater (desk_shown self.old.passes) who.number number }
+        ensures attempted { Attempted false (cells_machines self.old.cells.now) who number step.now
+            (desk_shown self.old.passes) (desk_shown self.new.passes) result }
+        ensures elsewhere { KeepsElsewhere step.now (desk_shown self.old.passes) (desk_shown self.new.passes) }
+        ensures counts { NoneFell (desk_counts self.old.passes) (desk_counts self.new.passes) }
+        ensures rose { IfOk result (λ reply. reply ≡ None →
+            Rose (desk_counts self.old.passes step.now) (desk_counts self.new.passes step.now)) }
+        ensures machines { cells_machines self.new.cells.now ≡ cells_machines self.old.cells.now }
+        ensures serves { SamePlayers (IsServed self.old.cells.now self.old.passes) (IsServed self.new.cells.now self.new.passes) }
+        ensures home { self.new.cells.now ≡ self.old.cells.now }
+        // Beside what any services give: some steps want no memory.
+        ensures memory { OnErr result (wants_none (cells_machines self.old.cells.now)
+            (desk_shown self.new.passes) who step.now ≡ false) }
+    {
         match step {
             Step::Work(op) => {
                 let made = visit(

@@ -55,7 +55,8 @@ fn empty_rows<S: Service>(
     mut cells: Vec<Option<Cell<S>>>,
     mut passes: Vec<Option<Pass<S>>>,
 ) -> Result<Vec<Option<S>>, NoMemory>
-    requires all { (ws : List Who) × AllStand (IsLegal S.machine) S.start ws cells.items passes.items × All (HasWhole (length ws)) cells.items }
+    requires all { (ws : List Who) × AllStand (IsLegal S.machine) S.start ws cells.items passes.items ×
+        All (HasWhole (length ws)) cells.items }
     ensures { IfOk result (λ services. AreClosed (IsLegal S.machine) S.start S.history cells.items passes.items services.items) }
 {
     let mut services = Vec::new(alloc);

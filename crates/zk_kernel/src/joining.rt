@@ -19,9 +19,12 @@ pub fn join_two<S: Service>(cell: &Cell<S>, into: &mut Option<Pass<S>>, other: O
     requires own { (ws : List Who) × (us : List Who) × StandsFor (IsLegal S.machine) S.start ws cell.now into.old
         × StandsFor (IsLegal S.machine) S.start us cell.now other }
     ensures players { (ws us : List Who) → StandsFor (IsLegal S.machine) S.start ws cell.now into.old →
-        StandsFor (IsLegal S.machine) S.start us cell.now other → StandsFor (IsLegal S.machine) S.start (ws ++ us) cell.now into.new }
-    ensures first { (ws : List Who) → StandsFor (IsLegal S.machine) S.start ws cell.now into.old → GoesOn ws (seen_at into.old) (seen_at into.new) }
-    ensures second { (us : List Who) → StandsFor (IsLegal S.machine) S.start us cell.now other → GoesOn us (seen_at other) (seen_at into.new) }
+        StandsFor (IsLegal S.machine) S.start us cell.now other →
+        StandsFor (IsLegal S.machine) S.start (ws ++ us) cell.now into.new }
+    ensures first { (ws : List Who) → StandsFor (IsLegal S.machine) S.start ws cell.now into.old →
+        GoesOn ws (seen_at into.old) (seen_at into.new) }
+    ensures second { (us : List Who) → StandsFor (IsLegal S.machine) S.start us cell.now other →
+        GoesOn us (seen_at other) (seen_at into.new) }
 {
     let Some(mut pass) = into.take() else {
         unreachable!()
@@ -36,9 +39,12 @@ fn join_one<S: Service>(cell: &Option<Cell<S>>, into: &mut Option<Pass<S>>, othe
     requires own { (ws : List Who) × (us : List Who) × StandsIn (IsLegal S.machine) S.start ws cell.now into.old
         × StandsIn (IsLegal S.machine) S.start us cell.now other }
     ensures players { (ws us : List Who) → StandsIn (IsLegal S.machine) S.start ws cell.now into.old →
-        StandsIn (IsLegal S.machine) S.start us cell.now other → StandsIn (IsLegal S.machine) S.start (ws ++ us) cell.now into.new }
-    ensures first { (ws : List Who) → StandsIn (IsLegal S.machine) S.start ws cell.now into.old → GoesOn ws (seen_at into.old) (seen_at into.new) }
-    ensures second { (us : List Who) → StandsIn (IsLegal S.machine) S.start us cell.now other → GoesOn us (seen_at other) (seen_at into.new) }
+        StandsIn (IsLegal S.machine) S.start us cell.now other →
+        StandsIn (IsLegal S.machine) S.start (ws ++ us) cell.now into.new }
+    ensures first { (ws : List Who) → StandsIn (IsLegal S.machine) S.start ws cell.now into.old →
+        GoesOn ws (seen_at into.old) (seen_at into.new) }
+    ensures second { (us : List Who) → StandsIn (IsLegal S.machine) S.start us cell.now other →
+        GoesOn us (seen_at other) (seen_at into.new) }
 {
     match cell {
         Some(cell) => join_two(cell, into, other),
@@ -55,11 +61,14 @@ pub fn join_rows<S: Service>(
     requires own { (ws : List Who) × (us : List Who) × AllStand (IsLegal S.machine) S.start ws cells.now into.old.items
         × AllStand (IsLegal S.machine) S.start us cells.now other.items }
     ensures players { (ws us : List Who) → AllStand (IsLegal S.machine) S.start ws cells.now into.old.items →
-        AllStand (IsLegal S.machine) S.start us cells.now other.items → AllStand (IsLegal S.machine) S.start (ws ++ us) cells.now into.new.items }
+        AllStand (IsLegal S.machine) S.start us cells.now other.items →
+        AllStand (IsLegal S.machine) S.start (ws ++ us) cells.now into.new.items }
     ensures first { (ws us : List Who) → AllStand (IsLegal S.machine) S.start ws cells.now into.old.items →
-        AllStand (IsLegal S.machine) S.start us cells.now other.items → EachGoesOn ws (seen_all into.old.items) (seen_all into.new.items) }
+        AllStand (IsLegal S.machine) S.start us cells.now other.items →
+        EachGoesOn ws (seen_all into.old.items) (seen_all into.new.items) }
     ensures second { (ws us : List Who) → AllStand (IsLegal S.machine) S.start ws cells.now into.old.items →
-        AllStand (IsLegal S.machine) S.start us cells.now other.items → EachGoesOn us (seen_all other.items) (seen_all into.new.items) }
+        AllStand (IsLegal S.machine) S.start us cells.now other.items →
+        EachGoesOn us (seen_all other.items) (seen_all into.new.items) }
 {
     for index in 0..cells.len() {
         let pass = other[index].take();

@@ -89,7 +89,8 @@ fn empty_signal(
         × IsSharedBy (length numbers) signal × (length numbers < 256) }
     requires steps { AreInStep notes.now }
     ensures { IfOk result (λ made. (numbers : List ℕ) (looks : List Seen) →
-        HasSharedIn numbers (left_at notes.now object) looks signal pass → IsPlayedIn (writes_at notes.now object) looks signal made) }
+        HasSharedIn numbers (left_at notes.now object) looks signal pass →
+        IsPlayedIn (writes_at notes.now object) looks signal made) }
 {
     let Some(signal) = signal else {
         return Ok(None);
@@ -108,7 +109,8 @@ pub fn empty_signals(
     mut passes: Vec<Option<SigPass>>,
     notes: &[Note],
 ) -> Result<Vec<Option<Signal>>, NoMemory>
-    requires all { (numbers : List ℕ) × (looks : ℕ → List Seen) × HaveShared numbers (left_at notes.now) looks signals.items passes.items
+    requires all { (numbers : List ℕ) × (looks : ℕ → List Seen) ×
+        HaveShared numbers (left_at notes.now) looks signals.items passes.items
         × All (IsSharedBy (length numbers)) signals.items × (length numbers < 256) }
     requires steps { AreInStep notes.now }
     ensures { IfOk result (λ made. (numbers : List ℕ) (looks : ℕ → List Seen) →

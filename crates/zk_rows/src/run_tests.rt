@@ -75,16 +75,19 @@ fn write_fault<R: Abort + Threads + Wait + Sync + AllocGlobal>(
     Ok(())
 }
 
-/// A fault of reading prints nothing, and one of writing leaves a front.
+/// For an input and the output that goes with it, each in parts: a fault of reading prints nothing, and one of writing leaves a
+/// front.
 fn each_fault<R: Abort + Threads + Wait + Sync + AllocGlobal>(
     rt: &R,
     words: &[&str],
+    input: &[&str],
+    output: &[&str],
 ) -> Result<(), NoMemory> {
-    let input = text_of(rt.alloc(), &[FRONT, ONE_SUBMISSION])?;
+    let input = text_of(rt.alloc(), input)?;
     for call in 0..input.len() as u64 / 4 + 2 {
         read_fault(rt, words, input.clone()?, call)?;
     }
-    let wanted = text_of(rt.alloc(), &[FRONT, ONE_SUBMISSION, ITS_TRACE])?;
+    let wanted = text_of(rt.alloc(), output)?;
     for call in 0..wanted.len().div_ceil(4) {
         write_fault(rt, words, input.clone()?, &wanted, call)?;
     }
@@ -93,13 +96,30 @@ fn each_fault<R: Abort + Threads + Wait + Sync + AllocGlobal>(
 
 #[test]
 fn each_fault_of_a_replay_is_told(rt: HostRuntime) -> Result<(), Fail> {
-    each_fault(&rt, &["replay"])?;
+    let output = [FRONT, ONE_SUBMISSION, ITS_TRACE];
+    each_fault(&rt, &["replay"], &[FRONT, ONE_SUBMISSION], &output)?;
     Ok(())
 }
 
 /// Only one order of the steps is possible, so the trace is the same.
 #[test]
 fn each_fault_of_a_run_is_told(rt: HostRuntime) -> Result<(), Fail> {
-    each_fault(&rt, &["run", "2"])?;
+    let output = [FRONT, ONE_SUBMISSION, ITS_TRACE];
+    each_fault(&rt, &["run", "2"], &[FRONT, ONE_SUBMISSION], &output)?;
+    Ok(())
+}
+
+#[test]
+fn each_fault_of_a_check_is_told(rt: HostRuntime) -> Result<(), Fail> {
+    let input = [FRONT, ONE_SUBMISSION, ITS_TRACE];
+    each_fault(&rt, &["check"], &input, &["lawful\n"])?;
+    Ok(())
+}
+
+/// Nothing says more of a scenario that is refused than its line.
+#[test]
+fn each_fault_of_a_refusal_is_told(rt: HostRuntime) -> Result<(), Fail> {
+    let input = [FRONT, "thread t0 0 super\n"];
+    each_fault(&rt, &["replay"], &input, &["refused 8 name\n"])?;
     Ok(())
 }

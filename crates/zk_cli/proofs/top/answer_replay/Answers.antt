@@ -17,3 +17,12 @@ returns-in-Err-Fault-clause-went g c =
 
 pub returns-in-Err-NoMemory-clause-went : goal.returns-in-Err-NoMemory-clause-went
 returns-in-Err-NoMemory-clause-went g c = no_memory Replay refl (Keeps-same (g.K.Sink.held c.args.sink.now))
+
+pub returns-in-Ok-clause-most : goal.returns-in-Ok-clause-most
+returns-in-Ok-clause-most g c = rw c.limit_of.ensures at c.read_input.ensures.most
+
+pub returns-in-Err-Fault-clause-most : goal.returns-in-Err-Fault-clause-most
+returns-in-Err-Fault-clause-most g c = rw c.limit_of.ensures at c.read_input.ensures.most
+
+pub returns-in-Err-NoMemory-clause-most : goal.returns-in-Err-NoMemory-clause-most
+returns-in-Err-NoMemory-clause-most g c = rw c.limit_of.ensures at c.read_input.ensures.most

@@ -1,4 +1,5 @@
 use Rattle.std.proofs.Common.{◌≡◌, ◌+◌, None, List, sym, ap, subst, ◌∙◌}
+use Rattle.std.proofs.lemmas.Bool.{false≢true}
 use Rattle.zk_base.specs.declared.ids.Who.{Who}
 use Rattle.zk_base.specs.declared.ids.Entry.{Entry}
 use Rattle.zk_base.specs.Legal.{IsLegal, state_after}
@@ -7,7 +8,7 @@ use Rattle.zk_turn.specs.Players.{GoesOn}
 use Rattle.zk_turn.specs.Passes.{given_to, service_of, held_who}
 use Rattle.zk_worker.specs.Single.{OthersGrew}
 use Rattle.zk_kernel.specs.Seats.{IsEntered, seen_at}
-use Rattle.zk_kernel.proofs.Visiting.{room_left, turn-players, own-still, own-entered, still_above, others_grew, entered, refused}
+use Rattle.zk_kernel.proofs.Visiting.{room_left, turn-players, own-still, own-entered, still_above, others_grew, entered, refused, not-closing}
 use Rattle.zk_kernel.proofs.at_cell.visit.Goals as goal
 
 pub enter-held-requires-clause-room : goal.enter-held-requires-clause-room
@@ -121,3 +122,15 @@ returns-in-Err-clause-visited g c =
     let same = rw c.in-Err.is at c.act-answer.ensures.err in
     let grew = subst (λ (l : List (Entry g.row.S-Op.Denot g.row.S-Reply.Denot)). OthersGrew c.args.who.number seen l) (sym (c.leave.ensures.seen ∙ same)) (others_grew c.args.who seen h goes) in
     subst (λ o. OthersGrew c.args.who.number (seen_at o) c.leave.result.seat.me.0.seen) (sym is) grew
+
+pub returns-in-Err-clause-memory : goal.returns-in-Err-clause-memory
+returns-in-Err-clause-memory g c =
+    let is = sym c.take.ensures.value ∙ c.in-Some.is in
+    let own = (rw is at c.requires.at).1 in
+    let who = c.enter-held.ensures.who ∙ own.player in
+    let h = g.S.Service.history (service_of c.enter-held.result) in
+    let same = rw c.in-Err.is at c.act-answer.ensures.err in
+    let closing = rw c.in-Err.is at c.act-answer.ensures.closing in
+    not-closing g.S.Service.closes g.S.Service.machine (g.S.Service.start (given_to c.args.cell.now)) (g.S.Service.start (service_of c.enter-held.result))
+    c.args.who (held_who c.enter-held.result) c.args.op h c.leave.result.seat.me.0.seen (g.S.Service.history (service_of c.act-answer.new.self))
+    c.enter-held.ensures.own.same_start who (λ yes. false≢true (closing yes)) c.leave.ensures.seen same

@@ -2,7 +2,7 @@ use Rattle.std.proofs.Common.{◌+◌, Some, get_or, sym, ap, subst, ◌∙◌, 
 use Rattle.zk_base.specs.Legal.{IsLegal}
 use Rattle.zk_kernel.specs.Seats.{seen_at, holds_at}
 use Rattle.zk_kernel.specs.Rows.{IsSeat}
-use Rattle.zk_kernel.proofs.Rowing.{taken-there, taken-one, cell-of, as_many, there, seat-there, seats-set, seen-there, holds-there, holds-new, holds-still, visited-among}
+use Rattle.zk_kernel.proofs.Rowing.{taken-there, taken-one, cell-of, as_many, there, seat-there, seats-set, seen-there, holds-there, holds-new, holds-still, visited-among, memory-among}
 use Rattle.zk_kernel.proofs.at_cells.visit_at.Goals as goal
 
 pub index_mut-requires : goal.index_mut-requires
@@ -62,3 +62,15 @@ returns-clause-holds g c =
 
 pub returns-clause-others : goal.returns-clause-others
 returns-clause-others g c = λ i else. holds-still c.args.seats.now.items c.args.object i c.visit_one.new.seat else
+
+pub returns-clause-memory : goal.returns-clause-memory
+returns-clause-memory g c =
+    let m = g.S.Service.machine in
+    let start = g.S.Service.start in
+    let same = as_many (IsLegal m) start c.args.who c.args.cells.now c.args.seats.now.items c.requires.seats in
+    let within = taken-there m start c.args.cells.now c.args.object c.args.op c.requires.taken in
+    let taken = taken-one m start c.args.cells.now c.args.object c.index-cells-object.result c.index-cells-object.result c.args.op c.requires.taken c.index-cells-object.is in
+    let cell = cell-of m start c.index-cells-object.result c.args.op taken in
+    memory-among g.S.Service.closes m start c.args.who c.args.op c.args.cells.now c.args.seats.now.items c.args.object cell.0 c.visit_one.new.seat c.visit_one.result
+    (there c.args.cells.now c.args.object c.index-cells-object.result c.index-cells-object.result within c.index-cells-object.is ∙ ap Some cell.1)
+    (omega arith) (c.visit_one.ensures.memory cell.0 cell.1)

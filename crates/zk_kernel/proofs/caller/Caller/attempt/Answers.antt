@@ -1,6 +1,7 @@
 use Rattle.std.proofs.Common.{ℕ, false, length, Option, refl, sym, ap, subst, ◌∙◌}
 use Rattle.zk_base.specs.declared.ids.Who.{Who}
 use Rattle.zk_scenario.specs.Content.{Content}
+use Rattle.zk_worker.specs.Machines.{machines_of}
 use Rattle.zk_worker.specs.Places.{PlayerPlace}
 use Rattle.zk_worker.specs.Protocol.{after}
 use Rattle.zk_worker.specs.Shown.{IsLater}
@@ -13,6 +14,7 @@ use Rattle.zk_kernel.specs.declared.cells.Cells.{Cells}
 use Rattle.zk_kernel.specs.declared.passes.Passes.{Passes}
 use Rattle.zk_kernel.specs.Callers.{IsAtDesk}
 use Rattle.zk_kernel.specs.Desks.{cells_machines, IsServed, desk_shown}
+use Rattle.zk_kernel.proofs.Attempts.{memory-told}
 use Rattle.zk_kernel.proofs.Callers.{playing-on}
 use Rattle.zk_kernel.proofs.caller.Caller.attempt.Goals as goal
 
@@ -93,3 +95,12 @@ returns-clause-who g c =
     let at = c.args.self.now.player in
     let led = c.made.ensures.next ∙ ap (λ (s : Content). after s at c.args.step.now c.in-Some-2.reply) c.scenario.ensures.scenario in
     ap (λ (a : PlayerPlace). a.who) led ∙ (after-spots k.scenario at c.args.step.now c.in-Some-2.reply).0
+
+pub returns-in_err-reply-clause-memory : goal.returns-in_err-reply-clause-memory
+returns-in_err-reply-clause-memory g c =
+    let k = c.args.kernel.now in
+    let at = c.args.self.now.player in
+    let m = cells_machines c.cells-cells.result.now in
+    let same = ap cells_machines c.cells-cells.ensures.cells ∙ c.cells-cells.ensures.made.machines in
+    let shown = desk_shown c.attempt-reply.new.self.passes in
+    memory-told m (machines_of k.scenario) shown c.who.result at.who c.args.step.now c.from_residual.result same c.who.ensures c.in_err-reply.ensures.memory

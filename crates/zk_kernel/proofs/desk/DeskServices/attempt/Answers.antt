@@ -1,10 +1,10 @@
-use Rattle.std.proofs.Common.{rules, ◌≡◌, ℕ, Ok, refl, subst, arith}
+use Rattle.std.proofs.Common.{rules, ◌≡◌, ℕ, false, Ok, refl, subst, arith}
 use Rattle.std.specs.Option.{option_map}
 use Rattle.zk_model_wait.specs.Clock.{clock_machine}
-use Rattle.zk_model_wait.specs.Sem.{sem_machine}
-use Rattle.zk_model_wait.specs.Msgq.{msgq_machine}
-use Rattle.zk_model_bus.specs.Channel.{chan_machine}
-use Rattle.zk_model_bus.specs.Observer.{obs_machine}
+use Rattle.zk_model_wait.specs.Sem.{sem_machine, sem_closes}
+use Rattle.zk_model_wait.specs.Msgq.{msgq_machine, msgq_closes}
+use Rattle.zk_model_bus.specs.Channel.{chan_machine, chan_closes}
+use Rattle.zk_model_bus.specs.Observer.{obs_machine, obs_closes}
 use Rattle.zk_model_bus.specs.Table.{table_machine}
 use Rattle.zk_model_work.specs.Machine.{work_machine}
 use Rattle.zk_model_wait.specs.declared.clock.ClockReply.{ClockReply}
@@ -28,8 +28,8 @@ use Rattle.zk_worker.proofs.Between.{above-work, above-clock, above-table, above
 use Rattle.zk_kernel.specs.Desks.{cells_machines, desk_shown}
 use Rattle.zk_kernel.specs.Seats.{seen_at}
 use Rattle.zk_base.specs.Legal.{IsLegal}
-use Rattle.zk_kernel.specs.Rows.{family, seen_all, AreSeats, VisitedAt}
-use Rattle.zk_kernel.proofs.Attempts.{attempted-one, attempted-many, when-err}
+use Rattle.zk_kernel.specs.Rows.{family, seen_all, closes_at, AreSeats, VisitedAt}
+use Rattle.zk_kernel.proofs.Attempts.{attempted-one, attempted-many, when-err, none-wanted}
 use Rattle.zk_kernel.proofs.Desks.{same-players, grows-work, grows-clock, grows-table, grows-sems, grows-msgqs, grows-chans, grows-observers}
 use Rattle.zk_kernel.proofs.desk.DeskServices.attempt.Goals as goal
 
@@ -270,3 +270,50 @@ returns-in_ok-made-in-Obs-clause-serves g c =
 pub returns-in-Signal-clause-serves : goal.returns-in-Signal-clause-serves
 returns-in-Signal-clause-serves g c =
     same-players c.args.self.now.cells.now c.args.self.now.passes c.quick_attempt.new.passes c.args.who c.requires.served c.quick_attempt.ensures.served
+
+pub returns-in_err-made-in-Work-clause-memory : goal.returns-in_err-made-in-Work-clause-memory
+returns-in_err-made-in-Work-clause-memory g c =
+    none-wanted (cells_machines c.args.self.now.cells.now) (desk_shown (record c.args.self.now.passes { work = c.visit.new.seat })) c.args.who (steps.Work c.in-Work.op) c.args.step.now
+    c.from_residual.result c.in-Work.is c.in_err-made-in-Work.ensures.memory
+
+pub returns-in_err-made-in-Clock-clause-memory : goal.returns-in_err-made-in-Clock-clause-memory
+returns-in_err-made-in-Clock-clause-memory g c =
+    none-wanted (cells_machines c.args.self.now.cells.now) (desk_shown (record c.args.self.now.passes { clock = c.visit-in-Clock.new.seat })) c.args.who (steps.Clock c.in-Clock.op) c.args.step.now
+    c.from_residual-in_err-made-in-Clock.result c.in-Clock.is c.in_err-made-in-Clock.ensures.memory
+
+pub returns-in_err-made-in-Table-clause-memory : goal.returns-in_err-made-in-Table-clause-memory
+returns-in_err-made-in-Table-clause-memory g c =
+    none-wanted (cells_machines c.args.self.now.cells.now) (desk_shown (record c.args.self.now.passes { table = c.visit-in-Table.new.seat })) c.args.who (steps.Table c.in-Table.op) c.args.step.now
+    c.from_residual-in_err-made-in-Table.result c.in-Table.is c.in_err-made-in-Table.ensures.memory
+
+pub returns-in_err-made-in-Sem-clause-memory : goal.returns-in_err-made-in-Sem-clause-memory
+returns-in_err-made-in-Sem-clause-memory g c =
+    let object = c.in-Sem.object in
+    let seats = c.visit_at.new.seats in
+    none-wanted (cells_machines c.args.self.now.cells.now) (desk_shown (record c.args.self.now.passes { sems = seats })) c.args.who (steps.Sem object c.in-Sem.op) c.args.step.now
+    c.from_residual-in_err-made-in-Sem.result c.in-Sem.is
+    (subst (λ cs. closes_at (λ s who op. sem_closes op) (family sem_machine sem_start cs) (seen_all seats.items) c.args.who object c.in-Sem.op ≡ false) c.deref.ensures.value c.in_err-made-in-Sem.ensures.memory)
+
+pub returns-in_err-made-in-Msgq-clause-memory : goal.returns-in_err-made-in-Msgq-clause-memory
+returns-in_err-made-in-Msgq-clause-memory g c =
+    let object = c.in-Msgq.object in
+    let seats = c.visit_at-in-Msgq.new.seats in
+    none-wanted (cells_machines c.args.self.now.cells.now) (desk_shown (record c.args.self.now.passes { msgqs = seats })) c.args.who (steps.Msgq object c.in-Msgq.op) c.args.step.now
+    c.from_residual-in_err-made-in-Msgq.result c.in-Msgq.is
+    (subst (λ cs. closes_at (λ s who op. msgq_closes op) (family msgq_machine msgq_start cs) (seen_all seats.items) c.args.who object c.in-Msgq.op ≡ false) c.deref-in-Msgq.ensures.value c.in_err-made-in-Msgq.ensures.memory)
+
+pub returns-in_err-made-in-Chan-clause-memory : goal.returns-in_err-made-in-Chan-clause-memory
+returns-in_err-made-in-Chan-clause-memory g c =
+    let object = c.in-Chan.object in
+    let seats = c.visit_at-in-Chan.new.seats in
+    none-wanted (cells_machines c.args.self.now.cells.now) (desk_shown (record c.args.self.now.passes { chans = seats })) c.args.who (steps.Chan object c.in-Chan.op) c.args.step.now
+    c.from_residual-in_err-made-in-Chan.result c.in-Chan.is
+    (subst (λ cs. closes_at chan_closes (family chan_machine chan_start cs) (seen_all seats.items) c.args.who object c.in-Chan.op ≡ false) c.deref-in-Chan.ensures.value c.in_err-made-in-Chan.ensures.memory)
+
+pub returns-in_err-made-in-Obs-clause-memory : goal.returns-in_err-made-in-Obs-clause-memory
+returns-in_err-made-in-Obs-clause-memory g c =
+    let object = c.in-Obs.object in
+    let seats = c.visit_at-in-Obs.new.seats in
+    none-wanted (cells_machines c.args.self.now.cells.now) (desk_shown (record c.args.self.now.passes { observers = seats })) c.args.who (steps.Obs object c.in-Obs.op) c.args.step.now
+    c.from_residual-in_err-made-in-Obs.result c.in-Obs.is
+    (subst (λ cs. closes_at (λ s who op. obs_closes op) (family obs_machine obs_start cs) (seen_all seats.items) c.args.who object c.in-Obs.op ≡ false) c.deref-in-Obs.ensures.value c.in_err-made-in-Obs.ensures.memory)
