@@ -17,6 +17,3 @@ pub use arrows::arrows_of;
 pub use bars::bars_of;
 pub use chart::{Arrow, ArrowKind, Bar, BarKind, Chart, Row};
 pub use making::chart_of;
-
-#[cfg(test)]
-mod tests;
