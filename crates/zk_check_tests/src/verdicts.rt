@@ -75,7 +75,7 @@ impl Case<'_> {
                 let told = check(self.alloc, self.scenario, &trace)?;
                 let wanted = judged(self.alloc, self.scenario, &trace, self.first_line)?;
                 let shown = from_utf8(text).unwrap_or("");
-                assert_eq!(rt; Some(told), wanted, "{shown}");
+                assert!(rt; Some(told) == wanted, "{shown}");
                 Ok(Some(told))
             }
             Err(TraceRefused::At(_)) => Ok(None),

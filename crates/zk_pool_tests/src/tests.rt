@@ -137,7 +137,10 @@ fn three_balls_and_two_hands(rt: HostRuntime) -> Result<(), Fail> {
     let Some(c) = pool.take(&rt, &mut second) else {
         panic!(rt; "a ball is in the pool");
     };
-    assert_eq!(rt; (a.number, b.number, c.number), (0, 1, 2), "in their order");
+    assert!(rt;
+        (a.number, b.number, c.number) == (0, 1, 2),
+        "in their order"
+    );
     assert!(rt;
         pool.take(&rt, &mut second).is_none(),
         "the fourth take finds nothing"
@@ -154,8 +157,11 @@ fn three_balls_and_two_hands(rt: HostRuntime) -> Result<(), Fail> {
 fn four_threads_juggle(rt: HostRuntime) -> Result<(), Fail> {
     let (back, caught) = juggled(&rt, rt.alloc(), 64, 250_000)?;
     assert!(rt; are_all(&back, 64), "all come back, each once");
-    assert_eq!(rt; caught, 1_000_000, "there is always a ball in the pool");
-    assert_eq!(rt; caught_in(&back), caught, "a ball is in one hand at a time");
+    assert!(rt; caught == 1_000_000, "there is always a ball in the pool");
+    assert!(rt;
+        caught_in(&back) == caught,
+        "a ball is in one hand at a time"
+    );
     Ok(())
 }
 
@@ -163,7 +169,7 @@ fn four_threads_juggle(rt: HostRuntime) -> Result<(), Fail> {
 fn more_threads_than_balls(rt: HostRuntime) -> Result<(), Fail> {
     let (back, caught) = juggled(&rt, rt.alloc(), 1, 10_000)?;
     assert!(rt; are_all(&back, 1), "the one ball comes back");
-    assert_eq!(rt; caught_in(&back), caught, "it is in one hand at a time");
+    assert!(rt; caught_in(&back) == caught, "it is in one hand at a time");
     Ok(())
 }
 
@@ -189,6 +195,6 @@ fn a_hand_that_finds_nothing(rt: HostRuntime) -> Result<(), Fail> {
     pool.give(&rt, &mut second, ball);
     let back = closed_by_two(&rt, rt.alloc(), pool, (first, second), room)?;
     assert!(rt; are_all(&back, 1));
-    assert_eq!(rt; size_of::<Hand<Ball>>(), 0, "a hand has no bytes");
+    assert!(rt; (size_of::<Hand<Ball>>()) == 0, "a hand has no bytes");
     Ok(())
 }

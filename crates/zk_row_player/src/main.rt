@@ -8,6 +8,7 @@ mod kept;
 mod play;
 mod reading;
 mod rows;
+mod shown;
 mod spelled;
 
 use rows::answered;

@@ -5,7 +5,7 @@ use zk_base::{NoMemory, OpenGate, Status, SureSink, SureSource, put};
 use zk_cli::{needs_cores, zk_plain, zk_run};
 
 /// More room than any output needs.
-const ROOM: usize = 4_000_000;
+pub const ROOM: usize = 4_000_000;
 
 /// How a top call ended, and what it printed.
 #[derive(Drop)]
@@ -41,7 +41,8 @@ pub fn play_by<R: Threads + Wait + Sync>(
     Ok(Played { status, sink })
 }
 
-fn source_of(alloc: Global, text: &[u8]) -> Result<SureSource, NoMemory> {
+/// A source that gives this text.
+pub fn source_of(alloc: Global, text: &[u8]) -> Result<SureSource, NoMemory> {
     let mut input = Vec::new(alloc);
     put(&mut input, text)?;
     Ok(SureSource::new(input, 5))

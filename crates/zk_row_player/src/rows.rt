@@ -2,8 +2,10 @@ use crate::checking::{put_checks, put_unlawful};
 use crate::kept::put_kept;
 use crate::play::{Played, play, play_by};
 use crate::reading::{is_read_again, put_readings};
+use crate::shown::{put_same_picture, put_shown};
 use crate::spelled::{put_spelled, put_times};
 use std::alloc::Global;
+use std::rt::Files;
 use std::sync::Wait;
 use std::thread::Threads;
 use zk_base::{NoMemory, Status, SureSink, put, put_decimal};
@@ -22,10 +24,12 @@ use zk_base::{NoMemory, Status, SureSink, put, put_decimal};
 ///     ? CHANGE       plays the text, and reads the trace changed in this way
 ///     ? check CHANGE plays the text, and checks the trace changed in this way
 ///     &              reads the trace that stands in the text: each entry, look and answer of it
+///     ^ WORD         shows the text, a run or a scenario alone, by this word: the status, and what is printed
+///     < PICTURE      shows the text by `svg`: the status, and whether it draws what this file holds
 ///
 /// Each trace that is played is read and printed again, and checked. Where it isn't the same, `misread` is printed, and where
 /// it isn't said to be lawful, what is said.
-pub fn answered<R: Threads + Wait + Sync>(
+pub fn answered<R: Threads + Wait + Files + AllocGlobal + Sync>(
     rt: &R,
     alloc: Global,
     lines: &str,
@@ -38,7 +42,7 @@ pub fn answered<R: Threads + Wait + Sync>(
     Ok(out)
 }
 
-fn put_row<R: Threads + Wait + Sync>(
+fn put_row<R: Threads + Wait + Files + AllocGlobal + Sync>(
     rt: &R,
     alloc: Global,
     out: &mut Vec<u8>,
@@ -59,6 +63,8 @@ fn put_row<R: Threads + Wait + Sync>(
         [b'@', ..] => put_holding(rt, alloc, out, text, line),
         [b'?', ..] => put_change(alloc, out, text, line),
         [b'&'] => put_kept(alloc, out, text),
+        [b'^', ..] => put_shown(alloc, out, text, line),
+        [b'<', ..] => put_same_picture(rt, out, text, line),
         _ => put_line(text, line.as_bytes()),
     }
 }

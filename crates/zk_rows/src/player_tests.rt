@@ -180,15 +180,15 @@ impl Thread {
     /// It stands before its first call, which is one attempt.
     fn stands<R: Abort>(&self, rt: &R) {
         let player = &self.player;
-        assert_eq!(rt; player.who().number, 0);
-        assert_eq!(rt; player.state(&self.scenario), PlayerState::Standing);
-        assert_eq!(rt; player.steps(), 0);
+        assert!(rt; player.who().number == 0);
+        assert!(rt; player.state(&self.scenario) == PlayerState::Standing);
+        assert!(rt; player.steps() == 0);
         assert!(rt; player.spots().is_empty() && player.answer_count() == 0);
         assert!(rt; player.ahead(&self.scenario, 0).is_some());
         assert!(rt; player.ahead(&self.scenario, 1).is_none());
         assert!(rt; !player.is_done() && !player.is_through() && !player.is_spent(&self.scenario));
-        assert_eq!(rt; player.depth(), 1);
-        assert_eq!(rt; player.mode(), Mode::Supervisor);
+        assert!(rt; player.depth() == 1);
+        assert!(rt; player.mode() == Mode::Supervisor);
     }
 
     /// Makes the next step, which is answered so: the step, and where it is recorded.
@@ -212,9 +212,9 @@ impl Thread {
     fn told<R: Abort>(&mut self, rt: &R, alloc: Global, row: &Row) -> Result<(), NoMemory> {
         let (told, place, step, answer) = *row;
         let made = self.make(alloc, &reply_of(alloc, told, place))?;
-        assert_eq!(rt; made.as_str(), step);
+        assert!(rt; made.as_str() == step);
         let last = self.answer(alloc)?;
-        assert_eq!(rt; last.as_str(), answer);
+        assert!(rt; last.as_str() == answer);
         Ok(())
     }
 
@@ -222,11 +222,11 @@ impl Thread {
     fn ends<R: Abort>(self, rt: &R, state: PlayerState, steps: usize, answers: usize) {
         let Thread { scenario, player } = self;
         assert!(rt; player.is_through());
-        assert_eq!(rt; player.depth(), 0);
+        assert!(rt; player.depth() == 0);
         let log = player.into_log(&scenario);
-        assert_eq!(rt; log.state, state);
-        assert_eq!(rt; log.steps.items().len(), steps);
-        assert_eq!(rt; log.answers.len(), answers);
+        assert!(rt; log.state == state);
+        assert!(rt; log.steps.items().len() == steps);
+        assert!(rt; log.answers.len() == answers);
     }
 }
 

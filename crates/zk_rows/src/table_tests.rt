@@ -85,34 +85,34 @@ const ROWS: [Row; 4] = [
 
 /// The objects of each kind are these.
 fn lists<R: Abort>(rt: &R, scenario: &Scenario, row: &Row) {
-    assert_eq!(rt; scenario.threads(), row.threads);
-    assert_eq!(rt; scenario.queues(), row.queues);
-    assert_eq!(rt; scenario.items(), row.items);
-    assert_eq!(rt; scenario.sems(), row.sems);
-    assert_eq!(rt; scenario.msgqs(), row.msgqs);
-    assert_eq!(rt; scenario.signals(), row.signals);
+    assert!(rt; scenario.threads() == row.threads);
+    assert!(rt; scenario.queues() == row.queues);
+    assert!(rt; scenario.items() == row.items);
+    assert!(rt; scenario.sems() == row.sems);
+    assert!(rt; scenario.msgqs() == row.msgqs);
+    assert!(rt; scenario.signals() == row.signals);
 }
 
 /// The objects have these numbers, and the players these priorities; there is none behind them.
 fn numbers<R: Abort>(rt: &R, scenario: &Scenario, row: &Row) {
-    assert_eq!(rt; scenario.written().len(), row.written);
-    assert_eq!(rt; scenario.decls().len(), row.numbers.len());
+    assert!(rt; scenario.written().len() == row.written);
+    assert!(rt; scenario.decls().len() == row.numbers.len());
     for (object, number) in row.numbers {
-        assert_eq!(rt; scenario.number(*object), *number, "object {object}");
+        assert!(rt; scenario.number(*object) == *number, "object {object}");
     }
-    assert_eq!(rt; scenario.players() as usize, row.prios.len());
+    assert!(rt; scenario.players() as usize == row.prios.len());
     for (player, prio) in row.prios {
         let who = scenario.who(*player);
-        assert_eq!(rt; who.map(|who| who.prio), Some(*prio), "player {player}");
+        assert!(rt; who.map(|who| who.prio) == Some(*prio), "player {player}");
     }
     assert!(rt; scenario.who(scenario.players()).is_none());
 }
 
 /// There are so many scripts and so many calls of the first object, and the others have none.
 fn scripts<R: Abort>(rt: &R, scenario: &Scenario, row: &Row) {
-    assert_eq!(rt; scenario.scripts().len(), row.scripts);
-    assert_eq!(rt; scenario.calls(0).len(), row.calls);
-    assert_eq!(rt; scenario.calls(1).len(), 0);
+    assert!(rt; scenario.scripts().len() == row.scripts);
+    assert!(rt; scenario.calls(0).len() == row.calls);
+    assert!(rt; scenario.calls(1).len() == 0);
 }
 
 fn read(alloc: Global, text: &str) -> Result<Scenario, Fail> {
@@ -153,9 +153,9 @@ fn a_copy_answers_as_what_was_read(rt: HostRuntime) -> Result<(), Fail> {
 
 /// Two names are found, and a front of one isn't.
 fn finds<R: Abort>(rt: &R, scenario: &Scenario) {
-    assert_eq!(rt; scenario.find(b"t0"), Some(0));
-    assert_eq!(rt; scenario.find(b"s0"), Some(1));
-    assert_eq!(rt; scenario.find(b"s"), None);
+    assert!(rt; scenario.find(b"t0") == Some(0));
+    assert!(rt; scenario.find(b"s0") == Some(1));
+    assert!(rt; scenario.find(b"s").is_none());
 }
 
 #[test]

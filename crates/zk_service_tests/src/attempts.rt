@@ -40,7 +40,7 @@ where
     };
     let futile = service.is_futile(who, &row.2);
     let reply = service.act(who, step, row.2)?;
-    assert_eq!(rt; reply, row.3, "at {step}");
+    assert!(rt; reply == row.3, "at {step}");
     assert!(rt; !futile || reply.is_none());
     Ok(())
 }
@@ -86,7 +86,7 @@ where
     let mut service = service;
     service.reserve()?;
     assert!(rt; service.room() >= 3);
-    assert_eq!(rt; service.word(256), 0);
+    assert!(rt; service.word(256) == 0);
     for index in 0..rows.len() {
         attempt(rt, &mut service, index as u32, &rows[index])?;
     }

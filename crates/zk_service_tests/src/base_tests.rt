@@ -11,8 +11,8 @@ use zk_base::{
 /// Whether each of the words is a name.
 fn names<R: Abort>(rt: &R, words: &[&str], named: bool) {
     for word in words {
-        assert_eq!(rt; is_name(word.as_bytes()), named, "{word}");
-        assert_eq!(rt; Name::new(word.as_bytes()).is_some(), named, "{word}");
+        assert!(rt; is_name(word.as_bytes()) == named, "{word}");
+        assert!(rt; Name::new(word.as_bytes()).is_some() == named, "{word}");
     }
 }
 
@@ -33,7 +33,7 @@ fn names_are_told_from_other_words(rt: HostRuntime) {
     let Some(name) = Name::new(b"debounce") else {
         panic!(rt; "it is a name")
     };
-    assert_eq!(rt; name.bytes(), b"debounce".as_slice());
+    assert!(rt; name.bytes() == b"debounce".as_slice());
 }
 
 /// A list of two, by way of a plain one.
@@ -54,8 +54,8 @@ fn text(alloc: Global) -> Result<Vec<u8>, NoMemory> {
 
 #[test]
 fn lists_and_texts_grow(rt: HostRuntime) -> Result<(), Fail> {
-    assert_eq!(rt; listed(rt.alloc())?.items(), [3, 5].as_slice());
-    assert_eq!(rt; text(rt.alloc())?.as_slice(), b"a1048576".as_slice());
+    assert!(rt; listed(rt.alloc())?.items() == [3, 5].as_slice());
+    assert!(rt; text(rt.alloc())?.as_slice() == b"a1048576".as_slice());
     Ok(())
 }
 
@@ -72,7 +72,7 @@ fn statuses_have_their_codes(rt: HostRuntime) {
         (Status::NoMemory, 7),
         (Status::Unlawful, 8),
     ] {
-        assert_eq!(rt; status.code(), code);
+        assert!(rt; status.code() == code);
     }
 }
 
@@ -80,8 +80,8 @@ fn statuses_have_their_codes(rt: HostRuntime) {
 fn reads<R: Abort, S: Source>(rt: &R, source: &mut S, rows: &[(Result<usize, Failed>, &[u8; 8])]) {
     let mut into = [0; 8];
     for (answer, text) in rows {
-        assert_eq!(rt; source.read(&mut into), *answer);
-        assert_eq!(rt; into.as_slice(), text.as_slice());
+        assert!(rt; source.read(&mut into) == *answer);
+        assert!(rt; into.as_slice() == text.as_slice());
     }
 }
 
@@ -89,7 +89,7 @@ fn reads<R: Abort, S: Source>(rt: &R, source: &mut S, rows: &[(Result<usize, Fai
 fn writes<R: Abort, S: Sink>(rt: &R, sink: &mut S, rows: &[(&[u8], Result<usize, Failed>)]) {
     for (piece, answer) in rows {
         if !piece.is_empty() {
-            assert_eq!(rt; sink.write(piece), *answer);
+            assert!(rt; sink.write(piece) == *answer);
         }
     }
 }
@@ -134,14 +134,14 @@ fn sinks_take_pieces_and_fail_where_they_are_told(rt: HostRuntime) -> Result<(),
             (b"gh", Err(Failed)),
         ],
     );
-    assert_eq!(rt; sink.held(), b"abcdef".as_slice());
+    assert!(rt; sink.held() == b"abcdef".as_slice());
     let mut sink = SureSink::new(Vec::with_capacity(rt.alloc(), 3)?, 2);
     writes(
         &rt,
         &mut sink,
         &[(b"abc", Ok(2)), (b"c", Ok(1)), (b"d", Err(Failed))],
     );
-    assert_eq!(rt; sink.held(), b"abc".as_slice());
+    assert!(rt; sink.held() == b"abc".as_slice());
     Ok(())
 }
 

@@ -68,9 +68,9 @@ impl Beside {
         let ends = matches!(op, ChanOp::ClaimEnd(_));
         let futile = self.channel.is_futile(who, &op);
         let told = self.channel.act(who, step, op)?;
-        assert_eq!(rt; futile, ends && told.is_none(), "at {step}");
+        assert!(rt; futile == (ends && told.is_none()), "at {step}");
         let wanted = chan_next(&mut self.plain, who, &op)?;
-        assert_eq!(rt; told, wanted, "at {step}");
+        assert!(rt; told == wanted, "at {step}");
         Ok(())
     }
 

@@ -54,9 +54,9 @@ fn claimed() -> [ChanRow; 21] {
 #[test]
 fn attempts_are_answered(rt: HostRuntime) -> Result<(), Fail> {
     let channel = Channel::new(rt.alloc(), message(0), Valid::Max(5), &[10, 11, 12])?;
-    assert_eq!(&rt; play(&rt, channel, claimed().as_slice())?, 17);
+    assert!(&rt; play(&rt, channel, claimed().as_slice())? == 17);
     let channel = Channel::new(rt.alloc(), message(0), Valid::Any, &[])?;
-    assert_eq!(&rt; channel.word(0), 0);
-    assert_eq!(&rt; play(&rt, channel, &[(0, 0, Claim(true), Some(Got))])?, 1);
+    assert!(&rt; channel.word(0) == 0);
+    assert!(&rt; play(&rt, channel, &[(0, 0, Claim(true), Some(Got))])? == 1);
     Ok(())
 }

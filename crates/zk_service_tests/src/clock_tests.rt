@@ -81,7 +81,7 @@ const TABLES: [(&[ClockRow], usize); 4] = [
 #[test]
 fn attempts_are_answered(rt: HostRuntime) -> Result<(), Fail> {
     for (rows, entries) in TABLES {
-        assert_eq!(&rt; play(&rt, Clock::new(rt.alloc()), rows)?, entries);
+        assert!(&rt; play(&rt, Clock::new(rt.alloc()), rows)? == entries);
     }
     Ok(())
 }

@@ -100,7 +100,7 @@ fn attempts_are_answered(rt: HostRuntime) -> Result<(), Fail> {
         (1, 1, polls.as_slice(), 13),
     ] {
         let msgq = Msgq::new(rt.alloc(), size, most)?;
-        assert_eq!(&rt; play(&rt, msgq, rows)?, entries);
+        assert!(&rt; play(&rt, msgq, rows)? == entries);
     }
     Ok(())
 }
@@ -117,6 +117,6 @@ fn sizes_are_kept(rt: HostRuntime) {
         (1, 257, true),
     ] {
         let msgq = Msgq::new(rt.alloc(), size, most);
-        assert_eq!(&rt; matches!(msgq, Err(NewRefused::Inval)), refused);
+        assert!(&rt; matches!(msgq, Err(NewRefused::Inval)) == refused);
     }
 }

@@ -76,9 +76,9 @@ impl Beside {
         );
         let futile = self.msgq.is_futile(who, &op);
         let told = self.msgq.act(who, step, op)?;
-        assert_eq!(rt; futile, ends && told.is_none(), "at {step}");
+        assert!(rt; futile == (ends && told.is_none()), "at {step}");
         let wanted = msgq_next(&mut self.plain, who, &op)?;
-        assert_eq!(rt; told, wanted, "at {step}");
+        assert!(rt; told == wanted, "at {step}");
         Ok(())
     }
 

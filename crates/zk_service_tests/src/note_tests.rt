@@ -60,7 +60,7 @@ fn by_priority(rt: HostRuntime) -> Result<(), Fail> {
     register(&rt, &mut notes)?;
     for (asked, wanted) in ROWS {
         let text = told(rt.alloc(), &mut notes, asked)?;
-        assert_eq!(&rt; text.as_str(), wanted);
+        assert!(&rt; text.as_str() == wanted);
     }
     Ok(())
 }

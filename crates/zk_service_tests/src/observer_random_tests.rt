@@ -65,9 +65,9 @@ impl Beside {
         let ends = matches!(op, ObsOp::TakeEnd(_));
         let futile = self.observer.is_futile(who, &op);
         let told = self.observer.act(who, step, op)?;
-        assert_eq!(rt; futile, ends && told.is_none(), "at {step}");
+        assert!(rt; futile == (ends && told.is_none()), "at {step}");
         let wanted = obs_next(&mut self.plain, who, &op)?;
-        assert_eq!(rt; told, wanted, "at {step}");
+        assert!(rt; told == wanted, "at {step}");
         Ok(())
     }
 

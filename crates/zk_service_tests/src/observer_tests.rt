@@ -40,9 +40,9 @@ const LISTENER: [ObsRow; 4] = [
 #[test]
 fn attempts_are_answered(rt: HostRuntime) -> Result<(), Fail> {
     let subscriber = Observer::subscriber(rt.alloc(), 1)?;
-    assert_eq!(&rt; subscriber.word(0), 0);
-    assert_eq!(&rt; play(&rt, subscriber, SUBSCRIBER.as_slice())?, 12);
+    assert!(&rt; subscriber.word(0) == 0);
+    assert!(&rt; play(&rt, subscriber, SUBSCRIBER.as_slice())? == 12);
     let listener = Observer::listener(rt.alloc());
-    assert_eq!(&rt; play(&rt, listener, LISTENER.as_slice())?, 3);
+    assert!(&rt; play(&rt, listener, LISTENER.as_slice())? == 3);
     Ok(())
 }

@@ -77,7 +77,7 @@ impl Beside {
         let dropped = number_at(waiting(&self.admissions, item));
         mark(&self.admissions, &mut self.marks, item)?;
         drop_waiting(&mut self.admissions, item);
-        assert_eq!(rt; self.queues.drop_item(item), dropped);
+        assert!(rt; self.queues.drop_item(item) == dropped);
         self.remark(item);
         Ok(())
     }
@@ -95,7 +95,7 @@ impl Beside {
         requires { queue < 3 }
     {
         let begun = plain_begin(&mut self.admissions, queue);
-        assert_eq!(rt; self.queues.begin(queue), begun);
+        assert!(rt; self.queues.begin(queue) == begun);
     }
 
     /// What the queue runs ends.
@@ -108,7 +108,7 @@ impl Beside {
             Some((_, number)) => Some(number),
             None => None,
         };
-        assert_eq!(rt; number, ended);
+        assert!(rt; number == ended);
         for item in 0..ITEMS {
             self.remark(item);
         }
@@ -118,11 +118,11 @@ impl Beside {
     fn agree<R: Abort>(&self, rt: &R) {
         for item in 0..ITEMS {
             let wanted = flags(item_of(&self.admissions, &self.marks, item), false, false);
-            assert_eq!(rt; self.queues.flags(item), wanted, "item {item}");
+            assert!(rt; self.queues.flags(item) == wanted, "item {item}");
         }
         for queue in 0..QUEUES {
             let wanted = is_empty_and_idle(&self.admissions, queue);
-            assert_eq!(rt; self.queues.is_idle(queue), wanted, "queue {queue}");
+            assert!(rt; self.queues.is_idle(queue) == wanted, "queue {queue}");
         }
     }
 

@@ -45,21 +45,21 @@ impl Rings {
     fn drop_item<R: Abort>(&mut self, rt: &R, item: u32, number: u64)
         requires { item < 256 }
     {
-        assert_eq!(rt; self.queues.drop_item(item), Some(number));
+        assert!(rt; self.queues.drop_item(item) == Some(number));
     }
 
     /// The queue begins this.
     fn begin<R: Abort>(&mut self, rt: &R, queue: u32, begun: Option<(u32, u64)>)
         requires { queue < 2 }
     {
-        assert_eq!(rt; self.queues.begin(queue), begun);
+        assert!(rt; self.queues.begin(queue) == begun);
     }
 
     /// What the queue runs ends.
     fn end<R: Abort>(&mut self, rt: &R, queue: u32, ended: (u32, u64))
         requires { queue < 2 }
     {
-        assert_eq!(rt; self.queues.end(queue), Some(ended));
+        assert!(rt; self.queues.end(queue) == Some(ended));
     }
 }
 
@@ -74,7 +74,7 @@ fn closed_up_while_an_entry_runs(rt: HostRuntime) -> Result<(), Fail> {
         rings.drop_item(&rt, item, u64::from(item));
     }
     rings.admit(8, 0);
-    assert_eq!(rt; rings.queues.flags(0), BusyFlags::RUNNING);
+    assert!(rt; rings.queues.flags(0) == BusyFlags::RUNNING);
     rings.end(&rt, 0, (0, 0));
     rings.begin(&rt, 0, Some((7, 7)));
     rings.end(&rt, 0, (7, 7));
@@ -92,7 +92,7 @@ fn all_are_dead(rt: HostRuntime) -> Result<(), Fail> {
         rings.drop_item(&rt, item, u64::from(item));
     }
     assert!(rt; rings.queues.is_idle(0));
-    assert_eq!(rt; rings.queues.first(0), None);
+    assert!(rt; rings.queues.first(0).is_none());
     rings.begin(&rt, 0, None);
     rings.admit(3, 0);
     rings.begin(&rt, 0, Some((3, 8)));

@@ -84,7 +84,7 @@ const TABLES: [(u32, u32, &[SemRow], usize); 3] = [
 fn attempts_are_answered(rt: HostRuntime) -> Result<(), Fail> {
     for (initial, limit, rows, entries) in TABLES {
         let sem = Sem::new(rt.alloc(), initial, limit)?;
-        assert_eq!(&rt; play(&rt, sem, rows)?, entries);
+        assert!(&rt; play(&rt, sem, rows)? == entries);
     }
     Ok(())
 }
@@ -94,6 +94,6 @@ fn attempts_are_answered(rt: HostRuntime) -> Result<(), Fail> {
 fn limits_are_kept(rt: HostRuntime) {
     for (initial, limit, refused) in [(0, 0, true), (0, 1, false), (1, 1, false), (2, 1, true)] {
         let sem = Sem::new(rt.alloc(), initial, limit);
-        assert_eq!(&rt; matches!(sem, Err(Errno::Inval)), refused);
+        assert!(&rt; matches!(sem, Err(Errno::Inval)) == refused);
     }
 }

@@ -191,8 +191,8 @@ impl Beside {
         let futile = self.sem.is_futile(who, &op);
         let told = self.sem.act(who, step, op)?;
         let wanted = self.plain.act(place, who, op)?;
-        assert_eq!(rt; futile, ends && told.is_none(), "at {place}");
-        assert_eq!(rt; told, wanted, "at {place}");
+        assert!(rt; futile == (ends && told.is_none()), "at {place}");
+        assert!(rt; told == wanted, "at {place}");
         Ok(())
     }
 

@@ -94,7 +94,7 @@ impl Beside {
 
     fn disarm<R: Abort>(&mut self, rt: &R, item: u32) {
         let armed = deadline(&self.plain, item).is_some();
-        assert_eq!(rt; self.list.disarm(item), armed);
+        assert!(rt; self.list.disarm(item) == armed);
         drop_item(&mut self.plain, item);
     }
 
@@ -109,10 +109,10 @@ impl Beside {
         let due = self.list.due(now);
         match next(&self.plain) {
             Some(next) if next.deadline <= now => {
-                assert_eq!(rt; due, Some((next.item, next.queue)));
+                assert!(rt; due == Some((next.item, next.queue)));
                 drop_item(&mut self.plain, next.item);
             }
-            _ => assert_eq!(rt; due, None),
+            _ => assert!(rt; due.is_none()),
         }
     }
 
@@ -120,11 +120,14 @@ impl Beside {
     fn agree<R: Abort>(&self, rt: &R, now: u64) {
         for item in 0..ITEMS {
             let deadline = deadline(&self.plain, item);
-            assert_eq!(rt; self.list.deadline(item), deadline, "item {item}");
-            assert_eq!(rt; self.list.is_armed(item), deadline.is_some(), "item {item}");
+            assert!(rt; self.list.deadline(item) == deadline, "item {item}");
+            assert!(rt;
+                self.list.is_armed(item) == deadline.is_some(),
+                "item {item}"
+            );
         }
-        assert_eq!(rt; self.list.count_due(now), count_due(&self.plain, now));
-        assert_eq!(rt; self.list.len(), self.plain.len());
+        assert!(rt; self.list.count_due(now) == count_due(&self.plain, now));
+        assert!(rt; self.list.len() == self.plain.len());
     }
 
     /// One operation.
@@ -166,17 +169,17 @@ fn armed(alloc: Global) -> Result<TimeoutList, NoMemory> {
 
 /// What they are asked, while all three are armed.
 fn seen<R: Abort>(rt: &R, list: &TimeoutList) {
-    assert_eq!(rt; list.len(), 3);
+    assert!(rt; list.len() == 3);
     for (item, deadline, queue) in [
         (3, Some(30), Some(9)),
         (0, Some(u64::MAX), Some(8)),
         (1, None, None),
     ] {
-        assert_eq!(rt; list.deadline(item), deadline);
-        assert_eq!(rt; list.queue(item), queue);
+        assert!(rt; list.deadline(item) == deadline);
+        assert!(rt; list.queue(item) == queue);
     }
     for (now, count) in [(29, 0), (30, 2)] {
-        assert_eq!(rt; list.count_due(now), count);
+        assert!(rt; list.count_due(now) == count);
     }
 }
 
@@ -188,13 +191,13 @@ fn ends<R: Abort>(rt: &R, list: &mut TimeoutList) {
         (30, Some((3, 9))),
         (30, None),
     ] {
-        assert_eq!(rt; list.due(now), due);
+        assert!(rt; list.due(now) == due);
     }
     for armed in [true, false] {
-        assert_eq!(rt; list.is_armed(0), armed);
-        assert_eq!(rt; list.disarm(0), armed);
+        assert!(rt; list.is_armed(0) == armed);
+        assert!(rt; list.disarm(0) == armed);
     }
-    assert_eq!(rt; list.len(), 0);
+    assert!(rt; list.len() == 0);
 }
 
 #[test]

@@ -250,7 +250,7 @@ impl Tried {
         let plain = WorkState::new(alloc, 3, &[2, 3], &[true, false])?;
         work.reserve()?;
         assert!(rt; work.room() >= 3);
-        assert_eq!(rt; work.word(256), 0);
+        assert!(rt; work.word(256) == 0);
         Ok(Tried {
             work,
             plain,
@@ -285,8 +285,8 @@ impl Tried {
         }
         let (told, plain) = self.attempt(number, op)?;
         let text = format!(in alloc; "{told:?}")?;
-        assert_eq!(rt; text.as_str(), wanted);
-        assert_eq!(rt; told, plain);
+        assert!(rt; text.as_str() == wanted);
+        assert!(rt; told == plain);
         Ok(())
     }
 
@@ -322,7 +322,7 @@ fn play<R: Abort>(rt: &R, alloc: Global, rows: &[WorkRow]) -> Result<(), Fail> {
     }
     assert!(rt; tried.has_kept(alloc, rows)?);
     let entries = tried.work.history().len();
-    assert_eq!(rt; tried.work.into_history().len(), entries);
+    assert!(rt; tried.work.into_history().len() == entries);
     Ok(())
 }
 
@@ -337,12 +337,12 @@ fn attempts_are_answered_and_kept(rt: HostRuntime) -> Result<(), Fail> {
 #[test]
 fn busy_flags_are_published(rt: HostRuntime) -> Result<(), Fail> {
     let mut tried = Tried::new(&rt, rt.alloc())?;
-    assert_eq!(&rt; tried.words(), [0, 0, 0]);
+    assert!(&rt; tried.words() == [0, 0, 0]);
     for (row, words) in BUSY_FLAGS.as_slice() {
         tried.told(&rt, rt.alloc(), row)?;
-        assert_eq!(&rt; tried.words(), *words);
+        assert!(&rt; tried.words() == *words);
     }
-    assert_eq!(&rt; tried.work.into_history().len(), BUSY_FLAGS.len());
+    assert!(&rt; tried.work.into_history().len() == BUSY_FLAGS.len());
     Ok(())
 }
 
@@ -352,8 +352,8 @@ fn what_is_touched_is_told(rt: HostRuntime) -> Result<(), Fail> {
     for (row, touched) in TOUCHED.as_slice() {
         tried.told(&rt, rt.alloc(), row)?;
         let text = format!(in rt.alloc(); "{:?}", tried.work.touched())?;
-        assert_eq!(&rt; text.as_str(), *touched);
+        assert!(&rt; text.as_str() == *touched);
     }
-    assert_eq!(&rt; tried.work.into_history().len(), 5);
+    assert!(&rt; tried.work.into_history().len() == 5);
     Ok(())
 }

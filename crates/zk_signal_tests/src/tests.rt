@@ -63,14 +63,14 @@ fn two_threads_raise(rt: HostRuntime) -> Result<(), Fail> {
         let one = raiser(rt.alloc(), 0, first)?;
         let other = raiser(rt.alloc(), 1, second)?;
         let (one, other) = raised_by_two(&rt, &signal, one, other, TIMES);
-        assert_eq!(rt; (one.writes.len(), other.writes.len()), (1_000, 1_000));
+        assert!(rt; (one.writes.len(), other.writes.len()) == (1_000, 1_000));
         assert!(rt; rise(&one.writes, 0), "each thread's stamps rise");
         assert!(rt; rise(&other.writes, 1), "each thread's stamps rise");
         let writes = all_in_order(signal, one, other, TIMES)?;
-        assert_eq!(rt; writes.len(), 2_000);
+        assert!(rt; writes.len() == 2_000);
         let mut next = 1u64;
         for write in &writes {
-            assert_eq!(rt; u64::from(write.stamp), next, "each stamp once");
+            assert!(rt; u64::from(write.stamp) == next, "each stamp once");
             next = u64::from(write.stamp) + 1;
         }
     }
@@ -81,49 +81,48 @@ fn two_threads_raise(rt: HostRuntime) -> Result<(), Fail> {
 fn a_look_shows_what_another_wrote(rt: HostRuntime) -> Result<(), Fail> {
     let (signal, passes) = SharedSignal::new(rt.alloc(), &[0, 1])?;
     let (mut first, mut second) = two_passes(&signal, passes);
-    assert_eq!(rt;
-        signal.look(&mut second),
-        Seen {
-            raised: false,
-            result: 0,
-            stamp: 0
-        }
+    assert!(rt;
+        signal.look(&mut second)
+            == Seen {
+                raised: false,
+                result: 0,
+                stamp: 0
+            }
     );
-    assert_eq!(rt; signal.raise(&mut first, 7), 1);
-    assert_eq!(rt;
-        signal.look(&mut second),
-        Seen {
-            raised: true,
-            result: 7,
-            stamp: 1
-        }
+    assert!(rt; signal.raise(&mut first, 7) == 1);
+    assert!(rt;
+        signal.look(&mut second)
+            == Seen {
+                raised: true,
+                result: 7,
+                stamp: 1
+            }
     );
-    assert_eq!(rt; signal.clear(&mut second), 2);
-    assert_eq!(rt;
-        signal.look(&mut first),
-        Seen {
-            raised: false,
-            result: 0,
-            stamp: 2
-        }
+    assert!(rt; signal.clear(&mut second) == 2);
+    assert!(rt;
+        signal.look(&mut first)
+            == Seen {
+                raised: false,
+                result: 0,
+                stamp: 2
+            }
     );
-    assert_eq!(rt; signal.raise(&mut second, 65_535), 3);
-    assert_eq!(rt; signal.raise(&mut first, 0), 4);
-    assert_eq!(rt;
-        signal.look(&mut second),
-        Seen {
-            raised: true,
-            result: 0,
-            stamp: 4
-        }
+    assert!(rt; signal.raise(&mut second, 65_535) == 3);
+    assert!(rt; signal.raise(&mut first, 0) == 4);
+    assert!(rt;
+        signal.look(&mut second)
+            == Seen {
+                raised: true,
+                result: 0,
+                stamp: 4
+            }
     );
-    assert_eq!(rt;
-        (first.room(), second.room()),
-        (19_998, 19_998),
+    assert!(rt;
+        (first.room(), second.room()) == (19_998, 19_998),
         "only a write takes room"
     );
     signal.join(&mut first, second);
-    assert_eq!(rt; signal.close(first), 4);
+    assert!(rt; signal.close(first) == 4);
     Ok(())
 }
 
@@ -131,10 +130,10 @@ fn a_look_shows_what_another_wrote(rt: HostRuntime) -> Result<(), Fail> {
 fn as_many_players_as_there_may_be(rt: HostRuntime) -> Result<(), Fail> {
     let players = [9; 256];
     let (_signal, passes) = SharedSignal::new(rt.alloc(), &players)?;
-    assert_eq!(rt; passes.len(), 256);
+    assert!(rt; passes.len() == 256);
     for pass in &passes {
-        assert_eq!(rt; pass.room(), 20_000);
+        assert!(rt; pass.room() == 20_000);
     }
-    assert_eq!(rt; size_of::<SigPass>(), 4, "a pass has 4 bytes");
+    assert!(rt; size_of::<SigPass>() == 4, "a pass has 4 bytes");
     Ok(())
 }

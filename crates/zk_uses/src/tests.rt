@@ -50,7 +50,7 @@ fn two_threads_submit(rt: HostRuntime) -> Result<(), Fail> {
     let (first, second) = two_callers(&cell, FIRST, SECOND, passes);
     let pass = submitted_by_two(&rt, &cell, first, second, TIMES);
     let history = cell.close(pass).into_history();
-    assert_eq!(rt; history.len(), 2000);
+    assert!(rt; history.len() == 2000);
     for who in [FIRST, SECOND] {
         assert!(rt; are_in_order(&history, who, TIMES));
     }
@@ -64,7 +64,7 @@ fn four_threads_submit(rt: HostRuntime) -> Result<(), Fail> {
     let (one, other) = four_callers(&cell, (FIRST, SECOND, THIRD, FOURTH), passes);
     let pass = submitted_by_four(&rt, &cell, one, other, TIMES);
     let history = cell.close(pass).into_history();
-    assert_eq!(rt; history.len(), 4000);
+    assert!(rt; history.len() == 4000);
     for who in [FIRST, SECOND, THIRD, FOURTH] {
         assert!(rt; are_in_order(&history, who, TIMES));
     }
@@ -78,7 +78,7 @@ fn two_threads_let_time_pass(rt: HostRuntime) -> Result<(), Fail> {
     let (first, second) = two_callers(&cell, FIRST, SECOND, passes);
     let pass = ticked_by_two(&rt, &cell, first, second, TIMES);
     let history = cell.close(pass).into_history();
-    assert_eq!(rt; history.len(), 2000);
+    assert!(rt; history.len() == 2000);
     for who in [FIRST, SECOND] {
         assert!(rt; are_in_order(&history, who, TIMES));
     }
@@ -138,10 +138,7 @@ fn two_threads_look_while_two_submit_and_cancel(rt: HostRuntime) -> Result<(), F
         let lookers = (looker(rt.alloc(), first)?, looker(rt.alloc(), second)?);
         let (lookers, others) = looked_at_meanwhile(&rt, &cell, lookers, callers, LOOKS, CALLS);
         let (history, first, second) = closed_after_looks(cell, lookers, others, 0);
-        assert_eq!(rt;
-            (history.len(), first.len(), second.len()),
-            (1_000, 20_000, 20_000)
-        );
+        assert!(rt; (history.len(), first.len(), second.len()) == (1_000, 20_000, 20_000));
         let flags = flags_after_each(rt.alloc(), &history)?;
         assert!(rt;
             are_of(&first, &flags),

@@ -110,29 +110,28 @@ fn a_turn_adds_an_entry(rt: HostRuntime) -> Result<(), Fail> {
     let service = Recorded::new(rt.alloc(), Snapshot::of(&0u64), Tally { count: 0 });
     let (cell, passes) = Cell::new(rt.alloc(), service, &[PLAYER])?;
     let pass = only(&cell, PLAYER, passes);
-    assert_eq!(rt; pass.room(), 20_000);
-    assert_eq!(rt; pass.front(), 0);
+    assert!(rt; pass.room() == 20_000);
+    assert!(rt; pass.front() == 0);
 
     let mut held = cell.enter(&rt, pass);
     let before = held.at();
     let answer = held.act(4, 0);
     let after = held.at();
     let pass = cell.leave(held);
-    assert_eq!(rt; answer?, Some(0));
-    assert_eq!(rt; (before, after), (0, 1));
-    assert_eq!(rt; pass.room(), 19_999);
-    assert_eq!(rt; pass.front(), 1);
+    assert!(rt; answer? == Some(0));
+    assert!(rt; (before, after) == (0, 1));
+    assert!(rt; pass.room() == 19_999);
+    assert!(rt; pass.front() == 1);
 
     let held = cell.enter(&rt, pass);
     let pass = cell.leave(held);
-    assert_eq!(rt;
-        pass.room(),
-        19_999,
+    assert!(rt;
+        pass.room() == 19_999,
         "a turn without an entry takes no room"
     );
 
     let service = cell.close(pass);
-    assert_eq!(rt; service.history().len(), 1);
+    assert!(rt; service.history().len() == 1);
     Ok(())
 }
 
@@ -142,15 +141,14 @@ fn a_call_has_a_turn_of_its_own(rt: HostRuntime) -> Result<(), Fail> {
     let (cell, passes) = Cell::new(rt.alloc(), service, &[PLAYER])?;
     let pass = only(&cell, PLAYER, passes);
     let (pass, answer) = cell.call(&rt, pass, 0, 0);
-    assert_eq!(rt; answer?, Some((0, 0)));
+    assert!(rt; answer? == Some((0, 0)));
     let (pass, answer) = cell.call(&rt, pass, 1, 0);
-    assert_eq!(rt;
-        answer?,
-        Some((1, 1)),
+    assert!(rt;
+        answer? == Some((1, 1)),
         "the reply, and the place of the entry"
     );
     let history = cell.close(pass).into_history();
-    assert_eq!(rt; history.len(), 2);
+    assert!(rt; history.len() == 2);
     Ok(())
 }
 
@@ -160,32 +158,31 @@ fn a_look_finds_what_was_submitted(rt: HostRuntime) -> Result<(), Fail> {
     let (cell, passes) = Cell::new(rt.alloc(), work, &[PLAYER])?;
     let mut pass = only(&cell, PLAYER, passes);
     let first = cell.look(&mut pass, 0);
-    assert_eq!(rt; first, Look { word: 0, at: 0 });
+    assert!(rt; first == Look { word: 0, at: 0 });
 
     let (mut pass, answer) = cell.call(&rt, pass, 0, WorkOp::Submit(0, Some(0)));
     assert!(rt; answer?.is_some());
     let second = cell.look(&mut pass, 0);
-    assert_eq!(rt;
-        second,
-        Look { word: 4, at: 1 },
+    assert!(rt;
+        second == Look { word: 4, at: 1 },
         "it waits, since the first entry"
     );
-    assert_eq!(rt; pass.room(), 19_997, "a look takes room as an entry does");
+    assert!(rt; pass.room() == 19_997, "a look takes room as an entry does");
     let history = cell.close(pass).into_history();
-    assert_eq!(rt; history.len(), 1);
+    assert!(rt; history.len() == 1);
     Ok(())
 }
 
 #[test]
 fn a_service_without_words_has_no_index_to_look_at(rt: HostRuntime) -> Result<(), Fail> {
-    assert_eq!(rt; <Clock as Service>::WORDS, 0);
+    assert!(rt; (<Clock as Service>::WORDS) == 0);
     let (cell, passes) = Cell::new(rt.alloc(), Clock::new(rt.alloc()), &[PLAYER])?;
     let pass = only(&cell, PLAYER, passes);
     let (pass, answer) = cell.call(&rt, pass, 0, ClockOp::Announce(1));
     assert!(rt; answer?.is_some(), "its entries are made all the same");
-    assert_eq!(rt; (pass.front(), pass.room()), (1, 19_999));
+    assert!(rt; (pass.front(), pass.room()) == (1, 19_999));
     let history = cell.close(pass).into_history();
-    assert_eq!(rt; history.len(), 1);
+    assert!(rt; history.len() == 1);
     Ok(())
 }
 
@@ -200,20 +197,18 @@ fn a_look_shows_what_another_submitted(rt: HostRuntime) -> Result<(), Fail> {
     let within = cell.look(&mut pass, 1);
     let mut first = cell.leave(held);
     assert!(rt; answer?.is_some());
-    assert_eq!(rt;
-        within,
-        Look { word: 0, at: 0 },
+    assert!(rt;
+        within == Look { word: 0, at: 0 },
         "an entry isn't shown before its turn is over"
     );
-    assert_eq!(rt; cell.look(&mut pass, 1), Look { word: 4, at: 1 });
-    assert_eq!(rt; pass.front(), 1, "what the look has shown is seen");
-    assert_eq!(rt;
-        cell.look(&mut pass, 0),
-        Look { word: 0, at: 1 },
+    assert!(rt; cell.look(&mut pass, 1) == Look { word: 4, at: 1 });
+    assert!(rt; pass.front() == 1, "what the look has shown is seen");
+    assert!(rt;
+        cell.look(&mut pass, 0) == Look { word: 0, at: 1 },
         "no look goes back behind that"
     );
     cell.join(&mut first, pass);
     let history = cell.close(first).into_history();
-    assert_eq!(rt; history.len(), 1);
+    assert!(rt; history.len() == 1);
     Ok(())
 }

@@ -189,79 +189,68 @@ pub fn call_row(word: Word) -> Row
     }
 }
 
-/// Returns the first of the heads whose row begins with this word. The compiler makes of each a comparison
-/// with the row's own text.
-macro_rules! return_first {
-    ($first:expr; $($head:expr),+ $(,)?) => {
-        $(
-            if begins_with($head, $first) {
-                return Some($head);
-            }
-        )+
-    };
-}
+/// The heads of all lines.
+const HEADS: [Head; 53] = [
+    Head::Declare(Kind::Thread),
+    Head::Declare(Kind::Queue),
+    Head::Declare(Kind::Item),
+    Head::Declare(Kind::Sem),
+    Head::Declare(Kind::Msgq),
+    Head::Declare(Kind::Signal),
+    Head::Declare(Kind::Listener),
+    Head::Declare(Kind::Sub),
+    Head::Declare(Kind::Chan),
+    Head::Allow,
+    Head::Script,
+    Head::End,
+    Head::Call(Word::Submit),
+    Head::Call(Word::Cancel),
+    Head::Call(Word::CancelSync),
+    Head::Call(Word::Flush),
+    Head::Call(Word::Schedule),
+    Head::Call(Word::Reschedule),
+    Head::Call(Word::Remaining),
+    Head::Call(Word::Busy),
+    Head::Call(Word::Start),
+    Head::Call(Word::Drain),
+    Head::Call(Word::Unplug),
+    Head::Call(Word::Tick),
+    Head::Call(Word::Take),
+    Head::Call(Word::Give),
+    Head::Call(Word::Reset),
+    Head::Call(Word::Count),
+    Head::Call(Word::Put),
+    Head::Call(Word::Get),
+    Head::Call(Word::Peek),
+    Head::Call(Word::PeekAt),
+    Head::Call(Word::Purge),
+    Head::Call(Word::Used),
+    Head::Call(Word::Free),
+    Head::Call(Word::Raise),
+    Head::Call(Word::Clear),
+    Head::Call(Word::Check),
+    Head::Call(Word::Poll),
+    Head::Call(Word::Claim),
+    Head::Call(Word::Finish),
+    Head::Call(Word::Publish),
+    Head::Call(Word::Notify),
+    Head::Call(Word::Read),
+    Head::Call(Word::Mask),
+    Head::Call(Word::Enable),
+    Head::Call(Word::SubWait),
+    Head::Call(Word::Grant),
+    Head::Call(Word::Release),
+    Head::Call(Word::Revoke),
+    Head::Call(Word::Public),
+    Head::Call(Word::Init),
+    Head::Call(Word::User),
+];
 
 /// The head of the line that this word begins, looked for among all of them.
 pub fn head_among(first: &[u8]) -> Option<Head>
     ensures { result ≡ head_of first.now }
 {
-    return_first!(
-        first;
-        Head::Declare(Kind::Thread),
-        Head::Declare(Kind::Queue),
-        Head::Declare(Kind::Item),
-        Head::Declare(Kind::Sem),
-        Head::Declare(Kind::Msgq),
-        Head::Declare(Kind::Signal),
-        Head::Declare(Kind::Listener),
-        Head::Declare(Kind::Sub),
-        Head::Declare(Kind::Chan),
-        Head::Allow,
-        Head::Script,
-        Head::End,
-        Head::Call(Word::Submit),
-        Head::Call(Word::Cancel),
-        Head::Call(Word::CancelSync),
-        Head::Call(Word::Flush),
-        Head::Call(Word::Schedule),
-        Head::Call(Word::Reschedule),
-        Head::Call(Word::Remaining),
-        Head::Call(Word::Busy),
-        Head::Call(Word::Start),
-        Head::Call(Word::Drain),
-        Head::Call(Word::Unplug),
-        Head::Call(Word::Tick),
-        Head::Call(Word::Take),
-        Head::Call(Word::Give),
-        Head::Call(Word::Reset),
-        Head::Call(Word::Count),
-        Head::Call(Word::Put),
-        Head::Call(Word::Get),
-        Head::Call(Word::Peek),
-        Head::Call(Word::PeekAt),
-        Head::Call(Word::Purge),
-        Head::Call(Word::Used),
-        Head::Call(Word::Free),
-        Head::Call(Word::Raise),
-        Head::Call(Word::Clear),
-        Head::Call(Word::Check),
-        Head::Call(Word::Poll),
-        Head::Call(Word::Claim),
-        Head::Call(Word::Finish),
-        Head::Call(Word::Publish),
-        Head::Call(Word::Notify),
-        Head::Call(Word::Read),
-        Head::Call(Word::Mask),
-        Head::Call(Word::Enable),
-        Head::Call(Word::SubWait),
-        Head::Call(Word::Grant),
-        Head::Call(Word::Release),
-        Head::Call(Word::Revoke),
-        Head::Call(Word::Public),
-        Head::Call(Word::Init),
-        Head::Call(Word::User),
-    );
-    None
+    HEADS.iter().copied().find(|head| begins_with(*head, first))
 }
 
 fn begins_with(head: Head, first: &[u8]) -> bool
