@@ -13,8 +13,6 @@ mod plan;
 mod rows;
 mod shape;
 mod style;
-#[cfg(test)]
-mod tests;
 mod words;
 
 pub use escape::texts_stay_texts;

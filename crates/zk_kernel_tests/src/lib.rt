@@ -1,11 +1,13 @@
-//! The shared kernel as its callers use it, on one thread and on many, and the tests of it.
+//! Tests alone: of the shared kernel as its callers use it, on one thread and on many.
 #![tactic(auto)]
 
 #[cfg(test)]
 mod call_tests;
 #[cfg(test)]
 mod moves;
+#[cfg(test)]
 mod ones;
+#[cfg(test)]
 mod parts;
 #[cfg(test)]
 mod played;
@@ -13,6 +15,7 @@ mod played;
 mod quick_tests;
 #[cfg(test)]
 mod round_tests;
+#[cfg(test)]
 mod rounds;
 #[cfg(test)]
 mod scenarios;
@@ -20,7 +23,3 @@ mod scenarios;
 mod texts;
 #[cfg(test)]
 mod thread_tests;
-
-pub use ones::{attempt_one, play_one, quick_one, step_one};
-pub use parts::{play_calls, play_each, play_steps};
-pub use rounds::{finish, play_rounds};

@@ -1,7 +1,9 @@
 //! What a test does with the callers of a kernel, as data: the tests' own bodies stay small, since each is proved.
 ghost use Rattle.zk_kernel.specs.Rests.{AreAllCallers};
 
-use crate::{attempt_one, play_each, play_one, play_rounds, quick_one, step_one};
+use crate::ones::{attempt_one, play_one, quick_one, step_one};
+use crate::parts::play_each;
+use crate::rounds::play_rounds;
 use std::sync::Wait;
 use std::thread::Threads;
 use zk_kernel::{Caller, Kernel, Stop};

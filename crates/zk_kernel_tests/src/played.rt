@@ -2,8 +2,8 @@
 ghost use Rattle.std.specs.Prelude.{◌≡◌, IfOk};
 ghost use Rattle.zk_kernel.specs.Rests.{AreAllCallers};
 
-use crate::finish;
 use crate::moves::{Move, make_move};
+use crate::rounds::finish;
 use std::alloc::Global;
 use std::sync::Wait;
 use std::test::Fail;

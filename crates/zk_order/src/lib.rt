@@ -5,8 +5,6 @@ mod drawing;
 mod lanes;
 mod order;
 mod services;
-#[cfg(test)]
-mod tests;
 
 pub use order::order_of;
 pub use services::service_number;

@@ -1,2 +1,2 @@
 pub mod Crossing
-mod Looks
+pub mod Looks
