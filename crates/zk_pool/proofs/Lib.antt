@@ -4,6 +4,7 @@ mod Dealing
 mod Filling
 mod Gathering
 mod Joining
+mod Keepers
 mod Keeping
 mod Learning
 mod Moving

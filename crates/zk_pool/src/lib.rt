@@ -3,6 +3,7 @@
 
 mod close;
 mod hand;
+mod keeper;
 mod moves;
 mod numbered;
 mod opening;
@@ -12,6 +13,7 @@ mod rule;
 mod views;
 
 pub use hand::Hand;
+pub use keeper::Keeper;
 pub use numbered::Numbered;
 pub use pool::Pool;
 pub use room::Room;

@@ -1,0 +1,90 @@
+ghost use Rattle.std.specs.Prelude.{◌≡◌, ◌≤◌, [], length, IfOk, IfSome, IfNone};
+ghost use Rattle.zk_pool.specs.Hands.{IsHandOf, hand_held, pool_home, pool_numbers};
+ghost use Rattle.zk_pool.specs.Keepers.{Keeps, Carries, keeper_aside};
+ghost use Rattle.zk_pool.specs.Rule.{Suits};
+
+use crate::hand::Hand;
+use crate::numbered::Numbered;
+use crate::pool::Pool;
+use std::alloc::Global;
+use std::sync::Wait;
+use zk_base::{NoMemory, push_within};
+
+/// A hand, and the items that its thread keeps out of the queue until its end, so that no other takes them in vain.
+#[derive(Drop)]
+pub struct Keeper<T: Numbered> {
+    pub(crate) hand: Hand<T>,
+    pub(crate) aside: Vec<T>,
+}
+
+impl<T: Numbered> Keeper<T> {
+    /// A hand that keeps nothing, with room for so many items.
+    pub fn new(
+        alloc: Global,
+        pool: &Pool<T>,
+        hand: Hand<T>,
+        room: usize,
+    ) -> Result<Keeper<T>, NoMemory>
+        requires own { IsHandOf T.number T.home pool.now hand }
+        requires none { hand_held hand ≡ [] }
+        requires room { length (pool_numbers T.number pool.now) ≤ room }
+        ensures keeps { IfOk result (λ keeper. Keeps T.number T.home T.kept pool.now keeper) }
+        ensures none { IfOk result (λ keeper. keeper_aside keeper ≡ []) }
+    {
+        let _pool = pool;
+        let aside = Vec::with_capacity(alloc, room)?;
+        Ok(Keeper { hand, aside })
+    }
+
+    /// Takes the item that has been in the queue for longest, if there is one.
+    pub fn take<R: Wait>(&mut self, rt: &R, pool: &Pool<T>) -> Option<T>
+        requires keeps { Keeps T.number T.home T.kept pool.now self.old }
+        ensures none { IfNone result (Keeps T.number T.home T.kept pool.now self.new) }
+        ensures one { IfSome result (λ x. Carries T.number T.home T.kept pool.now self.new (T.number x)) }
+        ensures suits { IfSome result (λ x. Suits T.number T.home T.kept (pool_home T.home pool.now) x) }
+    {
+        pool.take(rt, &mut self.hand)
+    }
+
+    /// Gives back the item that was taken.
+    pub fn give<R: Wait>(&mut self, rt: &R, pool: &Pool<T>, item: T)
+        requires carries { Carries T.number T.home T.kept pool.now self.old (T.number item) }
+        requires suits { Suits T.number T.home T.kept (pool_home T.home pool.now) item }
+        ensures keeps { Keeps T.number T.home T.kept pool.now self.new }
+    {
+        pool.give(rt, &mut self.hand, item);
+    }
+
+    /// Keeps the item that was taken.
+    pub fn keep(&mut self, pool: &Pool<T>, item: T)
+        requires carries { Carries T.number T.home T.kept pool.now self.old (T.number item) }
+        requires suits { Suits T.number T.home T.kept (pool_home T.home pool.now) item }
+        ensures keeps { Keeps T.number T.home T.kept pool.now self.new }
+    {
+        let _pool = pool;
+        push_within(&mut self.aside, item);
+    }
+
+    /// Gives back all that it keeps.
+    pub fn give_back<R: Wait>(&mut self, rt: &R, pool: &Pool<T>)
+        requires keeps { Keeps T.number T.home T.kept pool.now self.old }
+        ensures keeps { Keeps T.number T.home T.kept pool.now self.new }
+        ensures none { keeper_aside self.new ≡ [] }
+    {
+        while let Some(item) = self.aside.pop() {
+            pool.give(rt, &mut self.hand, item);
+        }
+    }
+
+    /// The hand, where nothing is kept.
+    pub fn into_hand(self, pool: &Pool<T>) -> Hand<T>
+        requires keeps { Keeps T.number T.home T.kept pool.now self }
+        requires none { keeper_aside self ≡ [] }
+        ensures own { IsHandOf T.number T.home pool.now result }
+        ensures none { hand_held result ≡ [] }
+    {
+        let _pool = pool;
+        let Keeper { hand, aside: _ } = self;
+        hand
+    }
+}
