@@ -9,7 +9,7 @@ use denote.Struct.Declared.{shape}
 use Rattle.std.proofs.Crossing.{crosses}
 use Rattle.zk_kernel.specs.contracts.kernel.Kernel as kernel
 use Rattle.zk_kernel.proofs.Crossing.{caller_send}
-use Rattle.zk_pool.proofs.Crossing.{hand_send, pool_sync}
+use Rattle.zk_pool.proofs.Crossing.{keeper_send, pool_sync}
 use Rattle.zk_pool.specs.contracts.pool.Pool as pool
 use Rattle.zk_cores.specs.contracts.seat.Seat as seat
 use Rattle.zk_cores.specs.contracts.seat.SeatNumbered.TheImpl.{ghosts}
@@ -23,7 +23,7 @@ pub core_send : IsSend core.the_row
 core_send = declared_send core.the_type (
   search (as_row_send, sendable) depth 14,
   (
-    hand_send seat.the_row kernel.the_row seat_send,
+    keeper_send seat.the_row kernel.the_row seat_send,
     (search (as_row_send, sendable, crosses) depth 20, (search (as_row_send, sendable) depth 14, tt)),
   ),
 )

@@ -4,7 +4,7 @@ use Rattle.zk_kernel.specs.declared.caller.Caller.{Caller}
 use Rattle.zk_kernel.specs.Callers.{IsCaller, place_of}
 use Rattle.zk_kernel.specs.Kernels.{Shared}
 use Rattle.zk_pool.specs.declared.pool.Pool.{Pool}
-use Rattle.zk_pool.specs.Hands.{IsHandOf, hand_held}
+use Rattle.zk_pool.specs.Keepers.{Keeps, keeper_aside}
 use Rattle.zk_cores.specs.declared.seat.Seat.{Seat}
 use Rattle.zk_cores.specs.declared.crew.Core.{Core}
 
@@ -24,10 +24,14 @@ seat_kernel seat = seat.kernel.value
 abbrev pub IsSeated : Seat → Type 0
 IsSeated seat = IsCaller (seat_kernel seat) (seat_caller seat)
 
--- a core of this pool, whose hand holds nothing
+-- a core of this pool, whose hand holds just those whom it keeps
+abbrev pub IsAtWork : Pool Seat Shared → Core → Type 0
+IsAtWork p core = Keeps seat_number seat_kernel IsSeated p core.keeper
+
+-- it keeps nobody
 pub record IsReady (p : Pool Seat Shared) (core : Core) : Type 0 where
-  pub own : IsHandOf seat_number seat_kernel p core.hand
-  pub none : hand_held core.hand ≡ []
+  pub at_work : IsAtWork p core
+  pub none : keeper_aside core.keeper ≡ []
 
 -- the numbers from this one on, so many
 abbrev pub numbers_from : ℕ → ℕ → List ℕ

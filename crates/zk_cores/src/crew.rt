@@ -1,43 +1,45 @@
 ghost use Rattle.std.specs.Prelude.{◌≡◌, ◌≤◌, [], length, All, IfOk};
-ghost use Rattle.zk_pool.specs.Hands.{IsNewHand, IsHandOf, hand_held};
+ghost use Rattle.zk_pool.specs.Hands.{IsNewHand, IsHandOf, hand_held, pool_numbers};
 ghost use Rattle.zk_cores.specs.Seats.{seat_number, seat_kernel, IsReady};
 
 use crate::seat::Seat;
 use crossbeam_utils::CachePadded;
 use std::alloc::Global;
 use zk_base::{NoMemory, push_within};
-use zk_pool::{Hand, Pool};
+use zk_pool::{Hand, Keeper, Pool};
 
 /// What one core has for itself.
 #[derive(Drop)]
 pub struct Core {
     /// Its number, from 0.
     pub number: u32,
-    /// By which it takes callers out of the pool.
-    pub hand: Hand<Seat>,
+    /// By which it takes callers out of the pool. It keeps those that are through until its end.
+    pub keeper: Keeper<Seat>,
     /// How often it has passed the gate. Each core counts on a line of its own.
     pub passes: CachePadded<u64>,
     /// It found no memory for a step.
     pub refused: bool,
 }
 
-/// A core for each hand of a pool.
+/// A core for each hand of a pool, with room for so many callers.
 pub fn crew_of(
     alloc: Global,
     pool: &Pool<Seat>,
     hands: Vec<Hand<Seat>>,
+    room: usize,
 ) -> Result<Vec<Core>, NoMemory>
+    requires room { length (pool_numbers seat_number pool.now) ≤ room }
     requires new { All (IsNewHand seat_number seat_kernel pool.now) hands.items }
     ensures ready { IfOk result (λ crew. All (IsReady pool.now) crew.items) }
     ensures count { IfOk result (λ crew. length crew.items ≡ length hands.items) }
 {
-    let _pool = pool;
     let mut crew = Vec::with_capacity(alloc, hands.len())?;
     let mut number = 0;
     for hand in hands {
+        let keeper = Keeper::new(alloc, pool, hand, room)?;
         let core = Core {
             number,
-            hand,
+            keeper,
             passes: CachePadded::new(0),
             refused: false,
         };
@@ -58,15 +60,15 @@ pub fn hands_of(
     ensures none { IfOk result (λ hands. All (λ hand. hand_held hand ≡ []) hands.items) }
     ensures count { IfOk result (λ hands. length hands.items ≡ length crew.items) }
 {
-    let _pool = pool;
     let mut hands = Vec::with_capacity(alloc, crew.len())?;
     for core in crew {
         let Core {
             number: _,
-            hand,
+            keeper,
             passes: _,
             refused: _,
         } = core;
+        let hand = keeper.into_hand(pool);
         push_within(&mut hands, hand);
     }
     Ok(hands)

@@ -1,6 +1,6 @@
 ghost use Rattle.std.specs.Prelude.{◌≡◌, ◌<◌, Some, All, length, vec_len};
 ghost use Rattle.zk_pool.specs.Hands.{pool_home};
-ghost use Rattle.zk_cores.specs.Seats.{seat_number, seat_kernel, IsSeated, IsReady};
+ghost use Rattle.zk_cores.specs.Seats.{seat_number, seat_kernel, IsSeated, IsAtWork, IsReady};
 
 use crate::crew::Core;
 use crate::meeting::Meeting;
@@ -35,7 +35,7 @@ fn play_seat<R: Wait, G: Gate>(
     ensures number { seat_number seat.new ≡ seat_number seat.old }
     ensures kernel { seat_kernel seat.new ≡ seat_kernel seat.old }
     ensures seated { IsSeated seat.new }
-    ensures hand { core.new.hand ≡ core.old.hand }
+    ensures keeper { core.new.keeper ≡ core.old.keeper }
 {
     if seat.rests(kernel) {
         return Ok(false);
@@ -46,7 +46,8 @@ fn play_seat<R: Wait, G: Gate>(
     Ok(stepped == Stepped::Did)
 }
 
-/// Takes a caller out of the pool, plays it once, and gives it back, whatever came of it: whether it made a step.
+/// Takes a caller out of the pool, plays it once, and gives it back, whatever came of it: whether it made a step. One that is
+/// through it keeps, so that no core takes it in vain.
 fn play_turn<R: Wait, G: Gate>(
     rt: &R,
     kernel: &Kernel,
@@ -55,14 +56,18 @@ fn play_turn<R: Wait, G: Gate>(
     core: &mut Core,
 ) -> Result<bool, NoMemory>
     requires home { pool_home seat_kernel pool.now ≡ Some kernel.now }
-    requires ready { IsReady pool.now core.old }
-    ensures ready { IsReady pool.now core.new }
+    requires at_work { IsAtWork pool.now core.old }
+    ensures at_work { IsAtWork pool.now core.new }
 {
-    let Some(mut seat) = pool.take(rt, &mut core.hand) else {
+    let Some(mut seat) = core.keeper.take(rt, pool) else {
         return Ok(false);
     };
     let made = play_seat(rt, kernel, gate, core, &mut seat);
-    pool.give(rt, &mut core.hand, seat);
+    if seat.is_through() {
+        core.keeper.keep(pool, seat);
+    } else {
+        core.keeper.give(rt, pool, seat);
+    }
     made
 }
 
@@ -75,8 +80,8 @@ fn play_round<R: Wait, G: Gate>(
     core: &mut Core,
 ) -> Result<bool, NoMemory>
     requires home { pool_home seat_kernel pool.now ≡ Some kernel.now }
-    requires ready { IsReady pool.now core.old }
-    ensures ready { IsReady pool.now core.new }
+    requires at_work { IsAtWork pool.now core.old }
+    ensures at_work { IsAtWork pool.now core.new }
 {
     let mut moved = false;
     for _ in 0..kernel.scenario().players() {
@@ -85,8 +90,8 @@ fn play_round<R: Wait, G: Gate>(
     Ok(moved)
 }
 
-/// Plays as far as it gets, once the other cores have come too. After a round without a step it looks away, the longer the more
-/// such rounds there were.
+/// Plays as far as it gets, once the other cores have come too, and then gives back whom it kept. After a round without a step it
+/// looks away, the longer the more such rounds there were.
 fn play_core<R: Wait, G: Gate>(
     rt: &R,
     kernel: &Kernel,
@@ -115,6 +120,7 @@ fn play_core<R: Wait, G: Gate>(
             }
         }
     }
+    core.keeper.give_back(rt, pool);
 }
 
 /// Looks away after a round without a step, which was that of this number, and now and then lets other threads run: each time it

@@ -37,8 +37,9 @@ fn play_callers<R: Threads + Wait + Sync, G: Gate + Sync>(
     ensures all { IfOk result (λ callers. AreAllCallers kernel.now callers.items) }
 {
     let seats = seat_all(alloc, kernel, callers)?;
+    let count = seats.len();
     let (pool, hands, room) = Pool::new(alloc, seats, cores)?;
-    let mut crew = crew_of(alloc, &pool, hands)?;
+    let mut crew = crew_of(alloc, &pool, hands, count)?;
     play_crew(rt, kernel, &pool, gate, &mut crew);
     if crew.iter().any(|core| core.refused) {
         return Err(NoMemory);

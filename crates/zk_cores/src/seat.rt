@@ -14,8 +14,9 @@ use zk_worker::Stepped;
 #[derive(Drop)]
 pub struct Seat {
     pub(crate) caller: Box<Caller>,
-    // Its last step wasn't possible, so it needn't be asked again before it has news.
-    pub(crate) waits: bool,
+    // What came of its last step, and before the first that it may go on. Where that wasn't possible it needn't be asked again before
+    // it has news.
+    pub(crate) last: Stepped,
     // The kernel that it was made for; it has no bytes.
     pub(crate) kernel: Snapshot<Kernel>,
 }
@@ -48,7 +49,7 @@ impl Seat {
         };
         Ok(Seat {
             caller,
-            waits: false,
+            last: Stepped::Did,
             kernel: Snapshot::of(kernel),
         })
     }
@@ -62,7 +63,12 @@ impl Seat {
 
     /// Whether it waits and has no news, so that a step would be in vain.
     pub fn rests(&self, kernel: &Kernel) -> bool {
-        self.waits && !self.caller.as_ref().has_news(kernel)
+        self.last == Stepped::NotYet && !self.caller.as_ref().has_news(kernel)
+    }
+
+    /// Whether its caller is through: it makes no further step.
+    pub fn is_through(&self) -> bool {
+        self.last == Stepped::Ended || self.last == Stepped::Spent
     }
 
     /// Makes one step with its caller.
@@ -73,8 +79,7 @@ impl Seat {
         ensures kernel { seat_kernel self.new ≡ seat_kernel self.old }
         ensures seated { IsSeated self.new }
     {
-        let stepped = self.caller.as_mut().step(rt, kernel)?;
-        self.waits = stepped == Stepped::NotYet;
-        Ok(stepped)
+        self.last = self.caller.as_mut().step(rt, kernel)?;
+        Ok(self.last)
     }
 }

@@ -22,7 +22,7 @@ loop-hand-preserved c =
       items = append_assoc l.yielded (hand ∷ []) _ ∙ ap (λ rest. l.yielded ++ rest) (sym steps) ∙ l.invariant.items;
       new = All-tail New hand _ all;
       ready = subst (All (IsReady pool)) (sym crew.items)
-          (All-push (IsReady pool) l.crew.items _ l.invariant.ready (record { own = new.own; none = new.held }));
+          (All-push (IsReady pool) l.crew.items _ l.invariant.ready (record { at_work = c.in_ok-keeper.ensures.keeps; none = c.in_ok-keeper.ensures.none }));
       made = (let len = crew.len in omega arith);
       room = (let kept = crew.capacity in omega arith);
     }

@@ -21,9 +21,9 @@ loop-core-preserved c =
       items = append_assoc l.yielded (core ∷ []) _ ∙ ap (λ rest. l.yielded ++ rest) (sym steps) ∙ l.invariant.items;
       ready = All-tail (IsReady pool) core _ all;
       own = subst (All (IsHandOf seat_number seat_kernel pool)) (sym hands.items)
-          (All-push (IsHandOf seat_number seat_kernel pool) l.hands.items core.hand l.invariant.own one.own);
+          (All-push (IsHandOf seat_number seat_kernel pool) l.hands.items _ l.invariant.own c.into_hand-hand.ensures.own);
       none = subst (All (λ hand. hand_held hand ≡ [])) (sym hands.items)
-          (All-push (λ hand. hand_held hand ≡ []) l.hands.items core.hand l.invariant.none one.none);
+          (All-push (λ hand. hand_held hand ≡ []) l.hands.items _ l.invariant.none c.into_hand-hand.ensures.none);
       made = (let len = hands.len in omega arith);
       room = (let kept = hands.capacity in omega arith);
     }

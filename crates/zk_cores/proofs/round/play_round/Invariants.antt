@@ -1,6 +1,6 @@
-use Rattle.zk_cores.specs.Seats.{IsReady}
+use Rattle.zk_cores.specs.Seats.{IsAtWork}
 use Rattle.zk_cores.proofs.round.play_round.Given as goal
 
--- the core is ready still
+-- the core keeps whom it keeps still
 abbrev pub invariant-loop : goal.invariant-loop
-invariant-loop g l = IsReady l.pool l.core
+invariant-loop g l = IsAtWork l.pool l.core
