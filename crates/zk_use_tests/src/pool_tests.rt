@@ -8,7 +8,7 @@ use std::sync::Wait;
 use std::test::Fail;
 use std::thread::Threads;
 use zk_base::{NoMemory, push_within};
-use zk_pool::{Hand, Pool, Room};
+use zk_pool::{Hand, Keeper, Pool, Room};
 use zk_uses::{Ball, balls, juggled_by_four};
 
 /// Two hands of one pool.
@@ -196,5 +196,35 @@ fn a_hand_that_finds_nothing(rt: HostRuntime) -> Result<(), Fail> {
     let back = closed_by_two(&rt, rt.alloc(), pool, (first, second), room)?;
     assert!(rt; are_all(&back, 1));
     assert!(rt; (size_of::<Hand<Ball>>()) == 0, "a hand has no bytes");
+    Ok(())
+}
+
+#[test]
+fn what_is_kept_is_back_at_the_end(rt: HostRuntime) -> Result<(), Fail> {
+    let (pool, hands, room) = Pool::new(rt.alloc(), balls(rt.alloc(), 3)?, 2)?;
+    let (first, mut second) = two_hands(&pool, hands);
+    let mut keeper = Keeper::new(rt.alloc(), &pool, first, 3)?;
+    let Some(kept) = keeper.take(&rt, &pool) else {
+        panic!(rt; "a ball is in the pool");
+    };
+    keeper.keep(&pool, kept);
+    let Some(given) = keeper.take(&rt, &pool) else {
+        panic!(rt; "a ball is in the pool");
+    };
+    keeper.give(&rt, &pool, given);
+    let Some(a) = pool.take(&rt, &mut second) else {
+        panic!(rt; "a ball is in the pool");
+    };
+    let Some(b) = pool.take(&rt, &mut second) else {
+        panic!(rt; "a ball is in the pool");
+    };
+    assert!(rt; (a.number, b.number) == (2, 1), "in their order");
+    assert!(rt; pool.take(&rt, &mut second).is_none(), "one is kept");
+    pool.give(&rt, &mut second, a);
+    pool.give(&rt, &mut second, b);
+    keeper.give_back(&rt, &pool);
+    let first = keeper.into_hand(&pool);
+    let back = closed_by_two(&rt, rt.alloc(), pool, (first, second), room)?;
+    assert!(rt; are_all(&back, 3));
     Ok(())
 }
