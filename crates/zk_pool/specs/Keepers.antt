@@ -3,12 +3,16 @@ use Rattle.std.specs.Prelude.{◌≡◌, ℕ, ◌+◌, ◌<◌, ◌≤◌, All, 
 use Rattle.zk_pool.specs.declared.keeper.Keeper.{Keeper}
 use Rattle.zk_pool.specs.declared.pool.Pool.{Pool}
 use Rattle.zk_pool.specs.Counts.{tally}
-use Rattle.zk_pool.specs.Hands.{IsHandOf, hand_held, pool_home, pool_numbers}
+use Rattle.zk_pool.specs.Hands.{IsHandOf, hand_empties, hand_held, pool_home, pool_numbers}
 use Rattle.zk_pool.specs.Rule.{Suits}
 
 -- the items that it keeps
 abbrev pub keeper_aside : {T H : Type 0} → Keeper T H → List T
 keeper_aside k = k.aside.items
+
+-- how many of its takes found the queue empty
+abbrev pub keeper_empties : {T H : Type 0} → Keeper T H → ℕ
+keeper_empties k = hand_empties k.hand
 
 module _ {T H : Type 0} (number : T → ℕ) (home : T → H) (kept : T → Type 0) where
   -- its hand is one of this pool and holds just the numbers of what it keeps, and it has room for all items

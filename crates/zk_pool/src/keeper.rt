@@ -1,6 +1,6 @@
-ghost use Rattle.std.specs.Prelude.{◌≡◌, ◌≤◌, [], length, IfOk, IfSome, IfNone};
+ghost use Rattle.std.specs.Prelude.{◌≡◌, ◌+◌, ◌≤◌, [], length, MatchOption, IfOk, IfSome, IfNone};
 ghost use Rattle.zk_pool.specs.Hands.{IsHandOf, hand_held, pool_home, pool_numbers};
-ghost use Rattle.zk_pool.specs.Keepers.{Keeps, Carries, keeper_aside};
+ghost use Rattle.zk_pool.specs.Keepers.{Keeps, Carries, keeper_aside, keeper_empties};
 ghost use Rattle.zk_pool.specs.Rule.{Suits};
 
 use crate::hand::Hand;
@@ -42,6 +42,10 @@ impl<T: Numbered> Keeper<T> {
         ensures none { IfNone result (Keeps T.number T.home T.kept pool.now self.new) }
         ensures one { IfSome result (λ x. Carries T.number T.home T.kept pool.now self.new (T.number x)) }
         ensures suits { IfSome result (λ x. Suits T.number T.home T.kept (pool_home T.home pool.now) x) }
+
+        // A take that found nothing is counted.
+        ensures empties { MatchOption result (keeper_empties self.new ≡ keeper_empties self.old + 1)
+            (λ x. keeper_empties self.new ≡ keeper_empties self.old) }
     {
         pool.take(rt, &mut self.hand)
     }
