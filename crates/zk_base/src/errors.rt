@@ -54,11 +54,11 @@ impl<T: Drop> From<AllocFailed<T>> for NoMemory {
 }
 
 /// A source or a sink failed; its count of faults has risen.
-#[derive(Clone, Copy, Debug, PartialEq, Eq)]
+#[derive(Clone, Copy, PartialEq, Eq)]
 pub struct Failed;
 
 /// Why a constructor that tests its arguments made nothing.
-#[derive(Clone, Copy, Debug, PartialEq, Eq)]
+#[derive(Clone, Copy, PartialEq, Eq)]
 pub enum NewRefused {
     /// An argument is out of its range.
     Inval,
@@ -66,7 +66,7 @@ pub enum NewRefused {
 }
 
 /// How a call of the program ended. `code` gives the exit status.
-#[derive(Clone, Copy, Debug, PartialEq, Eq)]
+#[derive(Clone, Copy, PartialEq, Eq)]
 pub enum Status {
     /// The run ended, or the trace is lawful.
     Success,

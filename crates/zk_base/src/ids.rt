@@ -1,5 +1,5 @@
 /// A player as a service knows it: a thread of the scenario, or the worker of a work queue.
-#[derive(Clone, Copy, Debug, PartialEq, Eq)]
+#[derive(Clone, Copy, PartialEq, Eq)]
 pub struct Who {
     /// The threads come first, in declared order, then the workers in the order of their queues.
     pub number: u32,
@@ -8,7 +8,7 @@ pub struct Who {
 }
 
 /// One line of a service's history: who did what, and what was answered.
-#[derive(Debug, Drop, PartialEq)]
+#[derive(Drop, PartialEq)]
 pub struct Entry<O, R> {
     /// The player whose step this was.
     pub who: Who,

@@ -4,7 +4,7 @@ use crate::{Failed, Sink};
 use std::marker::Model;
 
 /// A sink over memory that fails where it is told to, and where it is full.
-#[derive(Debug, Drop)]
+#[derive(Drop)]
 pub struct MemSink {
     room: Vec<u8>,
     piece: usize,
@@ -83,7 +83,7 @@ impl Sink for MemSink {
 }
 
 /// A sink over memory that fails only where it is full.
-#[derive(Debug, Drop)]
+#[derive(Drop)]
 pub struct SureSink {
     room: Vec<u8>,
     piece: usize,

@@ -6,7 +6,7 @@ use crate::{Failed, Source};
 use std::marker::Model;
 
 /// A source over memory that fails where it is told to.
-#[derive(Debug, Drop)]
+#[derive(Drop)]
 pub struct MemSource {
     bytes: Vec<u8>,
     // How many of the bytes were given.
@@ -78,7 +78,7 @@ impl Source for MemSource {
 }
 
 /// A source over memory that never fails.
-#[derive(Debug, Drop)]
+#[derive(Drop)]
 pub struct SureSource {
     bytes: Vec<u8>,
     // How many of the bytes were given.

@@ -8,7 +8,7 @@ use std::alloc::Global;
 use std::marker::Model;
 
 /// A wait that goes on.
-#[derive(Clone, Copy, Debug, PartialEq, Eq)]
+#[derive(Clone, Copy, PartialEq, Eq)]
 pub struct Waiter<M> {
     /// The place of the entry that began it, in the object's history.
     pub place: u64,
@@ -19,7 +19,7 @@ pub struct Waiter<M> {
 }
 
 /// A wait that is decided and that its caller hasn't ended yet.
-#[derive(Clone, Copy, Debug, PartialEq, Eq)]
+#[derive(Clone, Copy, PartialEq, Eq)]
 pub struct Decision<A> {
     /// The place of the entry that began the wait, in the object's history.
     pub place: u64,

@@ -3,7 +3,7 @@ use zk_base::{Entry, NoMemory};
 use zk_model_work::{Expiry, Submitted, WorkOp, WorkReply};
 
 /// What a player waits for.
-#[derive(Clone, Copy, Debug, PartialEq, Eq)]
+#[derive(Clone, Copy, PartialEq, Eq)]
 enum Awaited {
     Nothing,
     /// That the admission of this number ends or is dropped.
@@ -15,14 +15,14 @@ enum Awaited {
 }
 
 /// An admission that isn't over, and its queue.
-#[derive(Clone, Copy, Debug)]
+#[derive(Clone, Copy)]
 struct Open {
     number: u64,
     queue: u32,
 }
 
 /// What goes on with an item.
-#[derive(Clone, Copy, Debug)]
+#[derive(Clone, Copy)]
 struct ItemState {
     /// The queue of its last delay.
     delayed: u32,
@@ -33,7 +33,7 @@ struct ItemState {
 }
 
 /// What goes on at a queue.
-#[derive(Clone, Copy, Debug)]
+#[derive(Clone, Copy)]
 struct QueueState {
     /// The item that runs.
     runs: Option<u32>,

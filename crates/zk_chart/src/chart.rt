@@ -1,7 +1,7 @@
 use zk_trace::Ending;
 
 /// A run to be drawn: a lane for each player, in player order, and a row for each step, from the first down.
-#[derive(Debug, Drop)]
+#[derive(Drop)]
 pub struct Chart<'a> {
     /// How the run ended.
     pub ending: Ending,
@@ -17,7 +17,7 @@ pub struct Chart<'a> {
 }
 
 /// A step.
-#[derive(Clone, Copy, Debug, PartialEq, Eq)]
+#[derive(Clone, Copy, PartialEq, Eq)]
 pub struct Row<'a> {
     /// The number of the player: its lane.
     pub player: u32,
@@ -32,7 +32,7 @@ pub struct Row<'a> {
 }
 
 /// What goes on in a lane from one row to another.
-#[derive(Clone, Copy, Debug, PartialEq, Eq)]
+#[derive(Clone, Copy, PartialEq, Eq)]
 pub struct Bar {
     /// The number of the player: its lane.
     pub player: u32,
@@ -45,7 +45,7 @@ pub struct Bar {
     pub last: Option<u32>,
 }
 
-#[derive(Clone, Copy, Debug, PartialEq, Eq)]
+#[derive(Clone, Copy, PartialEq, Eq)]
 pub enum BarKind {
     /// A handler's run, from `begin` to `end`.
     Run,
@@ -56,7 +56,7 @@ pub enum BarKind {
 }
 
 /// What a step brought about: another step.
-#[derive(Clone, Copy, Debug, PartialEq, Eq)]
+#[derive(Clone, Copy, PartialEq, Eq)]
 pub struct Arrow {
     pub kind: ArrowKind,
     /// The row from which it leads, from 0.
@@ -65,7 +65,7 @@ pub struct Arrow {
     pub to: u32,
 }
 
-#[derive(Clone, Copy, Debug, PartialEq, Eq)]
+#[derive(Clone, Copy, PartialEq, Eq)]
 pub enum ArrowKind {
     /// From what admitted an item to the `begin` of that admission.
     Admission,

@@ -11,7 +11,7 @@ use zk_scenario::MOST_CHANS;
 use zk_trace::Stood;
 
 /// The visits of a publish or a notify.
-#[derive(Clone, Copy, Debug)]
+#[derive(Clone, Copy)]
 struct Visits {
     /// In how many runs and scripts of the lane they are made.
     depth: u32,
@@ -20,7 +20,7 @@ struct Visits {
 }
 
 /// How a lane waits.
-#[derive(Clone, Copy, Debug)]
+#[derive(Clone, Copy)]
 enum Waiting {
     Not,
     /// A wait goes on: its bar.

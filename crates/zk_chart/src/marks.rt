@@ -9,7 +9,7 @@ use zk_trace::{History, Trace};
 use zk_worker::Spot;
 
 /// What a step says of the bars of its lane.
-#[derive(Clone, Copy, Debug, PartialEq, Eq)]
+#[derive(Clone, Copy, PartialEq, Eq)]
 pub enum Mark {
     /// A handler's run begins.
     Begin,

@@ -7,7 +7,7 @@ use zk_trace::Trace;
 use zk_worker::{Log, PlayerState, Spot, Word};
 
 /// A wait of a poll of signals alone. No reply tells of it, since a look makes no entry.
-#[derive(Clone, Copy, Debug)]
+#[derive(Clone, Copy)]
 pub struct PollWait {
     /// The first step at which a signal wasn't raised.
     pub first: usize,

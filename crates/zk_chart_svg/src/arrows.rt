@@ -83,7 +83,7 @@ fn class_of(kind: ArrowKind) -> &'static [u8]
 
 /// The way of an arrow: from a box across to where nothing stands beside its lane, down or up there, and across to the other box.
 /// A row has one box, so that it crosses none.
-#[derive(Clone, Copy, Debug, PartialEq, Eq)]
+#[derive(Clone, Copy, PartialEq, Eq)]
 struct Way {
     from_x: u64,
     from_y: u64,

@@ -26,7 +26,7 @@ pub const LEAST_WIDTH: u64 = 780;
 pub const TEN_LETTERS: u16 = 66;
 
 /// Where everything in a picture stands, in pixels.
-#[derive(Clone, Copy, Debug, PartialEq, Eq)]
+#[derive(Clone, Copy, PartialEq, Eq)]
 pub struct Plan {
     pub shape: Shape,
     pub lanes: u32,

@@ -1,7 +1,7 @@
 ghost use Rattle.std.specs.Prelude.{◌≤◌};
 
 /// The measures of a lane, in pixels. What begins with `box` is of the box of a step, or of its dot where a lane is narrow.
-#[derive(Clone, Copy, Debug, PartialEq, Eq)]
+#[derive(Clone, Copy, PartialEq, Eq)]
 pub struct Shape {
     /// Whether a step's words stand in its box, and not beside the lanes.
     pub is_wide: bool,

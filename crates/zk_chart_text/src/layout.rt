@@ -17,7 +17,7 @@ const LEAST: usize = 18;
 const FEW: usize = 20;
 
 /// Where the lanes of a chart stand.
-#[derive(Clone, Copy, Debug, PartialEq, Eq)]
+#[derive(Clone, Copy, PartialEq, Eq)]
 pub struct Layout {
     /// How many there are.
     pub lanes: usize,

@@ -1,5 +1,5 @@
 /// Why a trace isn't lawful. The reasons are tested in this order, each where the ones before it don't apply.
-#[derive(Clone, Copy, Debug, PartialEq, Eq)]
+#[derive(Clone, Copy, PartialEq, Eq)]
 pub enum Fail {
     /// The steps of a player aren't 0, 1, 2 and on, each in one entry or look, or they don't rise within a history.
     Place,
@@ -14,7 +14,7 @@ pub enum Fail {
 }
 
 /// What stands in a line of a trace's text.
-#[derive(Clone, Copy, Debug, PartialEq, Eq)]
+#[derive(Clone, Copy, PartialEq, Eq)]
 pub enum Site {
     /// How the run ended.
     Ending,

@@ -19,7 +19,7 @@ use zk_services::first_services;
 use zk_trace::{Trace, stood_lines};
 
 /// What a check answers.
-#[derive(Clone, Copy, Debug, PartialEq, Eq)]
+#[derive(Clone, Copy, PartialEq, Eq)]
 pub enum Checked {
     /// The trace is lawful for its scenario.
     Lawful,

@@ -8,7 +8,7 @@ use zk_scenario::LONGEST_SCENARIO;
 use zk_words::number_in;
 
 /// What the program is asked to do.
-#[derive(Clone, Copy, Debug, PartialEq, Eq)]
+#[derive(Clone, Copy, PartialEq, Eq)]
 pub enum Form {
     /// `replay`: reads a scenario, plays it on one thread by round robin, and prints its text and the trace.
     Replay,

@@ -1,11 +1,7 @@
 ghost use Rattle.std.specs.Prelude.{◌≡◌, [], ◌∷◌, map};
-ghost use Rattle.zk_line.specs.Calls.{saying, call_of, said_of, word_of, is_user_call};
+ghost use Rattle.zk_line.specs.Calls.{saying, said_of, word_of, is_user_call};
 
 use crate::events::Events;
-use crate::shapes::{
-    object_bytes_wait, object_maybe, object_number, object_result, object_truth, object_wait,
-    one_number, one_object, two_objects, two_objects_number, two_objects_truth, wait_events,
-};
 use crate::types::{Arg, Call, Ref};
 use std::marker::Model;
 use zk_base::Msg;
@@ -28,58 +24,6 @@ impl Model for Said {
     ghost Value = { Saying };
 
     ghost view = { λ s. saying s.word (standing s.args ++ events_said s.events) };
-}
-
-/// The call of a word and what stands behind it.
-pub fn call_of(word: Word, args: &[Arg]) -> Option<Call>
-    ensures { result ≡ call_of word args.now }
-{
-    match word {
-        Word::Submit => object_maybe(args).map(|p| Call::Submit(p.0, p.1)),
-        Word::Cancel => one_object(args).map(Call::Cancel),
-        Word::CancelSync => one_object(args).map(Call::CancelSync),
-        Word::Flush => one_object(args).map(Call::Flush),
-        Word::Schedule => two_objects_number(args).map(|p| Call::Schedule(p.0, p.1, p.2)),
-        Word::Reschedule => two_objects_number(args).map(|p| Call::Reschedule(p.0, p.1, p.2)),
-        Word::Remaining => one_object(args).map(Call::Remaining),
-        Word::Busy => one_object(args).map(Call::Busy),
-        Word::Start => one_object(args).map(Call::Start),
-        Word::Drain => object_truth(Choice::Drain, args).map(|p| Call::Drain(p.0, p.1)),
-        Word::Unplug => one_object(args).map(Call::Unplug),
-        Word::Tick => one_number(args).map(Call::Tick),
-        Word::Take => object_wait(args).map(|p| Call::Take(p.0, p.1)),
-        Word::Give => one_object(args).map(Call::Give),
-        Word::Reset => one_object(args).map(Call::Reset),
-        Word::Count => one_object(args).map(Call::Count),
-        Word::Put => object_bytes_wait(args).map(|p| Call::Put(p.0, p.1, p.2)),
-        Word::Get => object_wait(args).map(|p| Call::Get(p.0, p.1)),
-        Word::Peek => one_object(args).map(Call::Peek),
-        Word::PeekAt => object_number(args).map(|p| Call::PeekAt(p.0, p.1)),
-        Word::Purge => one_object(args).map(Call::Purge),
-        Word::Used => one_object(args).map(Call::Used),
-        Word::Free => one_object(args).map(Call::Free),
-        Word::Raise => object_result(args).map(|p| Call::Raise(p.0, p.1)),
-        Word::Clear => one_object(args).map(Call::Clear),
-        Word::Check => one_object(args).map(Call::Check),
-        Word::Poll => wait_events(args).map(|p| Call::Poll(p.0, p.1)),
-        Word::Claim => object_wait(args).map(|p| Call::Claim(p.0, p.1)),
-        Word::Finish => one_object(args).map(Call::Finish),
-        Word::Publish => object_bytes_wait(args).map(|p| Call::Publish(p.0, p.1, p.2)),
-        Word::Notify => object_wait(args).map(|p| Call::Notify(p.0, p.1)),
-        Word::Read => object_wait(args).map(|p| Call::Read(p.0, p.1)),
-        Word::Mask => two_objects_truth(Choice::State, args).map(|p| Call::Mask(p.0, p.1, p.2)),
-        Word::Enable => object_truth(Choice::State, args).map(|p| Call::Enable(p.0, p.1)),
-        Word::SubWait => object_wait(args).map(|p| Call::SubWait(p.0, p.1)),
-        Word::Grant => two_objects(args).map(|p| Call::Grant(p.0, p.1)),
-        Word::Release => one_object(args).map(Call::Release),
-        Word::Revoke => two_objects(args).map(|p| Call::Revoke(p.0, p.1)),
-        Word::Public => one_object(args).map(Call::Public),
-        Word::Init => one_object(args).map(Call::Init),
-        Word::User => match args {
-            [] => Some(Call::User),
-            _ => None,
-        },
-    }
 }
 
 /// How a call is written.

@@ -11,7 +11,7 @@ use zk_base::{Few, Msg, Name};
 use zk_words::{Choice, Kind, Valid};
 
 /// What stands behind the name of a channel; the length of its message stands before that.
-#[derive(Clone, Copy, Debug)]
+#[derive(Clone, Copy)]
 pub struct Channel {
     /// The message that it has at first.
     pub message: Msg,

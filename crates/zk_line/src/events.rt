@@ -9,7 +9,7 @@ use zk_words::Source;
 pub const MOST_EVENTS: usize = 8;
 
 /// What a poll waits for at one of its places. Zephyr's `k_poll_event`.
-#[derive(Clone, Copy, Debug)]
+#[derive(Clone, Copy)]
 pub enum Event {
     /// Nothing: it is never ready. Zephyr's `K_POLL_TYPE_IGNORE`.
     Ignore,
@@ -22,7 +22,7 @@ pub enum Event {
 }
 
 /// The events of a poll: 1 to `MOST_EVENTS`, kept in place, so that they are copied without memory.
-#[derive(Clone, Copy, Debug)]
+#[derive(Clone, Copy)]
 pub struct Events {
     // The events, then `Ignore`.
     events: [Event; MOST_EVENTS],

@@ -19,7 +19,7 @@ mod types;
 mod weights;
 
 pub use arg_list::Args;
-pub use calls::{Said, call_of, is_user_call, said_of, word_of};
+pub use calls::{Said, is_user_call, said_of, word_of};
 pub use checks::{first_object, has_many_events, has_many_observers};
 pub use decls::{Channel, Written, decl_of, permission_of, written_of};
 pub use events::{Event, Events, MOST_EVENTS};

@@ -1,19 +1,30 @@
 ghost use Rattle.std.specs.Prelude.{◌≡◌, Some, None, [], ◌∷◌, if◌then◌else◌};
-ghost use Rattle.zk_words.specs.declared.word.Word.TheVariants as words;
 ghost use Rattle.zk_line.specs.Calls.{call_of};
 
-use crate::calls::call_of;
-use crate::shapes::wait_events;
+use crate::shapes::{
+    object_bytes_wait, object_maybe, object_number, object_result, object_truth, object_wait,
+    one_number, one_object, two_objects, two_objects_number, two_objects_truth, wait_events,
+};
 use crate::types::{Arg, Call, Ref};
 use zk_base::Msg;
-use zk_words::{GREATEST_RESULT, Timeout, Word};
+use zk_words::{Choice, GREATEST_RESULT, Timeout, Word};
 
 /// Writes a call where it is kept: of a large type that is less than to hand it out.
-macro_rules! written {
-    ($place:expr, $call:expr) => {{
-        *$place = $call;
+macro_rules! put {
+    ($place:expr, $($call:tt)*) => {{
+        *$place = Call::$($call)*;
         true
     }};
+}
+
+/// Puts the call of what stands behind its word, if that has the call's shape.
+macro_rules! put_if {
+    ($said:expr, $parts:ident => $put:expr) => {
+        match $said {
+            Some($parts) => $put,
+            None => false,
+        }
+    };
 }
 
 /// Puts the call of a word and what stands behind it in a place. The answer is whether there is one.
@@ -40,27 +51,27 @@ fn put_on_one(place: &mut Call, word: Word, object: &Ref) -> bool
     ensures { call_of word (Arg.Object object.now ∷ []) ≡ (if result then Some place.new else None) }
 {
     match word {
-        Word::Submit => written!(place, Call::Submit(*object, None)),
-        Word::Cancel => written!(place, Call::Cancel(*object)),
-        Word::CancelSync => written!(place, Call::CancelSync(*object)),
-        Word::Flush => written!(place, Call::Flush(*object)),
-        Word::Remaining => written!(place, Call::Remaining(*object)),
-        Word::Busy => written!(place, Call::Busy(*object)),
-        Word::Start => written!(place, Call::Start(*object)),
-        Word::Unplug => written!(place, Call::Unplug(*object)),
-        Word::Give => written!(place, Call::Give(*object)),
-        Word::Reset => written!(place, Call::Reset(*object)),
-        Word::Count => written!(place, Call::Count(*object)),
-        Word::Peek => written!(place, Call::Peek(*object)),
-        Word::Purge => written!(place, Call::Purge(*object)),
-        Word::Used => written!(place, Call::Used(*object)),
-        Word::Free => written!(place, Call::Free(*object)),
-        Word::Clear => written!(place, Call::Clear(*object)),
-        Word::Check => written!(place, Call::Check(*object)),
-        Word::Finish => written!(place, Call::Finish(*object)),
-        Word::Release => written!(place, Call::Release(*object)),
-        Word::Public => written!(place, Call::Public(*object)),
-        Word::Init => written!(place, Call::Init(*object)),
+        Word::Submit => put!(place, Submit(*object, None)),
+        Word::Cancel => put!(place, Cancel(*object)),
+        Word::CancelSync => put!(place, CancelSync(*object)),
+        Word::Flush => put!(place, Flush(*object)),
+        Word::Remaining => put!(place, Remaining(*object)),
+        Word::Busy => put!(place, Busy(*object)),
+        Word::Start => put!(place, Start(*object)),
+        Word::Unplug => put!(place, Unplug(*object)),
+        Word::Give => put!(place, Give(*object)),
+        Word::Reset => put!(place, Reset(*object)),
+        Word::Count => put!(place, Count(*object)),
+        Word::Peek => put!(place, Peek(*object)),
+        Word::Purge => put!(place, Purge(*object)),
+        Word::Used => put!(place, Used(*object)),
+        Word::Free => put!(place, Free(*object)),
+        Word::Clear => put!(place, Clear(*object)),
+        Word::Check => put!(place, Check(*object)),
+        Word::Finish => put!(place, Finish(*object)),
+        Word::Release => put!(place, Release(*object)),
+        Word::Public => put!(place, Public(*object)),
+        Word::Init => put!(place, Init(*object)),
         _ => false,
     }
 }
@@ -72,12 +83,12 @@ fn put_on_wait(place: &mut Call, word: Word, object: &Ref, wait: Timeout) -> boo
         ≡ (if result then Some place.new else None) }
 {
     match word {
-        Word::Take => written!(place, Call::Take(*object, wait)),
-        Word::Get => written!(place, Call::Get(*object, wait)),
-        Word::Claim => written!(place, Call::Claim(*object, wait)),
-        Word::Notify => written!(place, Call::Notify(*object, wait)),
-        Word::Read => written!(place, Call::Read(*object, wait)),
-        Word::SubWait => written!(place, Call::SubWait(*object, wait)),
+        Word::Take => put!(place, Take(*object, wait)),
+        Word::Get => put!(place, Get(*object, wait)),
+        Word::Claim => put!(place, Claim(*object, wait)),
+        Word::Notify => put!(place, Notify(*object, wait)),
+        Word::Read => put!(place, Read(*object, wait)),
+        Word::SubWait => put!(place, SubWait(*object, wait)),
         _ => false,
     }
 }
@@ -89,9 +100,9 @@ fn put_on_two(place: &mut Call, word: Word, object: &Ref, other: &Ref) -> bool
         ≡ (if result then Some place.new else None) }
 {
     match word {
-        Word::Submit => written!(place, Call::Submit(*object, Some(*other))),
-        Word::Grant => written!(place, Call::Grant(*object, *other)),
-        Word::Revoke => written!(place, Call::Revoke(*object, *other)),
+        Word::Submit => put!(place, Submit(*object, Some(*other))),
+        Word::Grant => put!(place, Grant(*object, *other)),
+        Word::Revoke => put!(place, Revoke(*object, *other)),
         _ => false,
     }
 }
@@ -103,10 +114,10 @@ fn put_with_number(place: &mut Call, word: Word, object: &Ref, number: u32) -> b
         ≡ (if result then Some place.new else None) }
 {
     match word {
-        Word::PeekAt => written!(place, Call::PeekAt(*object, number)),
+        Word::PeekAt => put!(place, PeekAt(*object, number)),
         Word::Raise => {
             if number <= GREATEST_RESULT {
-                written!(place, Call::Raise(*object, number as u16))
+                put!(place, Raise(*object, number as u16))
             } else {
                 false
             }
@@ -128,8 +139,8 @@ fn put_with_message(
         ≡ (if result then Some place.new else None) }
 {
     match word {
-        Word::Put => written!(place, Call::Put(*object, *message, wait)),
-        Word::Publish => written!(place, Call::Publish(*object, *message, wait)),
+        Word::Put => put!(place, Put(*object, *message, wait)),
+        Word::Publish => put!(place, Publish(*object, *message, wait)),
         _ => false,
     }
 }
@@ -140,29 +151,46 @@ fn put_other(place: &mut Call, word: Word, args: &[Arg]) -> bool
     ensures { call_of word args.now ≡ (if result then Some place.new else None) }
 {
     match word {
-        Word::Poll => put_poll(place, args),
-        _ => put_any(place, word, args),
+        Word::Submit => put_if!(object_maybe(args), said => put!(place, Submit(said.0, said.1))),
+        Word::Schedule | Word::Reschedule => {
+            put_if!(two_objects_number(args), said => put_delayed(place, word, said.0, said.1, said.2))
+        }
+        Word::Drain =>
+            put_if!(object_truth(Choice::Drain, args), said => put!(place, Drain(said.0, said.1))),
+        Word::Tick => put_if!(one_number(args), ticks => put!(place, Tick(ticks))),
+        Word::Take | Word::Get | Word::Claim | Word::Notify | Word::Read | Word::SubWait => {
+            put_if!(object_wait(args), said => put_on_wait(place, word, &said.0, said.1))
+        }
+        Word::Put | Word::Publish => {
+            put_if!(object_bytes_wait(args), said => put_with_message(place, word, &said.0, &said.1, said.2))
+        }
+        Word::PeekAt => put_if!(object_number(args), said => put!(place, PeekAt(said.0, said.1))),
+        Word::Raise => put_if!(object_result(args), said => put!(place, Raise(said.0, said.1))),
+        Word::Poll => put_if!(wait_events(args), said => put!(place, Poll(said.0, said.1))),
+        Word::Mask => {
+            put_if!(two_objects_truth(Choice::State, args), said => put!(place, Mask(said.0, said.1, said.2)))
+        }
+        Word::Enable =>
+            put_if!(object_truth(Choice::State, args), said => put!(place, Enable(said.0, said.1))),
+        Word::Grant | Word::Revoke => {
+            put_if!(two_objects(args), said => put_on_two(place, word, &said.0, &said.1))
+        }
+        Word::User => match args {
+            [] => put!(place, User),
+            _ => false,
+        },
+        _ => put_if!(one_object(args), object => put_on_one(place, word, &object)),
     }
 }
 
-/// A poll.
-#[inline(never)]
-fn put_poll(place: &mut Call, args: &[Arg]) -> bool
-    ensures { call_of words.Poll args.now ≡ (if result then Some place.new else None) }
+/// The call that names two objects and a delay.
+fn put_delayed(place: &mut Call, word: Word, item: Ref, queue: Ref, delay: u32) -> bool
+    ensures { call_of word (Arg.Object item ∷ Arg.Object queue ∷ Arg.Number delay ∷ [])
+        ≡ (if result then Some place.new else None) }
 {
-    match wait_events(args) {
-        Some((wait, events)) => written!(place, Call::Poll(wait, events)),
-        None => false,
-    }
-}
-
-/// A call of any shape.
-#[inline(never)]
-fn put_any(place: &mut Call, word: Word, args: &[Arg]) -> bool
-    ensures { call_of word args.now ≡ (if result then Some place.new else None) }
-{
-    match call_of(word, args) {
-        Some(call) => written!(place, call),
-        None => false,
+    match word {
+        Word::Schedule => put!(place, Schedule(item, queue, delay)),
+        Word::Reschedule => put!(place, Reschedule(item, queue, delay)),
+        _ => false,
     }
 }

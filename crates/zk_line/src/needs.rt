@@ -7,7 +7,7 @@ use crate::types::{Call, Ref};
 use zk_words::Need;
 
 /// An object that a call names, and what it has to be.
-#[derive(Clone, Copy, Debug)]
+#[derive(Clone, Copy)]
 pub struct Needed {
     /// The object as the call names it.
     pub object: Ref,

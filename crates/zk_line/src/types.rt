@@ -3,7 +3,7 @@ use zk_base::{Few, Msg, Name};
 use zk_words::{Choice, Timeout, Valid};
 
 /// One declaration. Objects are numbered from 0 in declared order.
-#[derive(Clone, Copy, Debug)]
+#[derive(Clone, Copy)]
 pub enum Decl {
     /// A thread, its priority (the lower number first), and whether it is a user thread.
     Thread(Name, i8, bool),
@@ -30,7 +30,7 @@ pub enum Decl {
 }
 
 /// One line among the declarations.
-#[derive(Clone, Copy, Debug)]
+#[derive(Clone, Copy)]
 pub enum Declared {
     /// The declaration of an object, by its number.
     Object(u32),
@@ -39,7 +39,7 @@ pub enum Declared {
 }
 
 /// An object as a call names it.
-#[derive(Clone, Copy, Debug)]
+#[derive(Clone, Copy)]
 pub enum Ref {
     /// A declared object, by its number.
     Known(u32),
@@ -48,7 +48,7 @@ pub enum Ref {
 }
 
 /// What one word of a line says.
-#[derive(Clone, Copy, Debug)]
+#[derive(Clone, Copy)]
 pub enum Arg {
     Name(Name),
     Object(Ref),
@@ -73,7 +73,7 @@ impl Default for Arg {
 }
 
 /// One call of a script, its arguments in the written order.
-#[derive(Clone, Copy, Debug)]
+#[derive(Clone, Copy)]
 pub enum Call {
     /// An item, and the queue where one is named. Zephyr's `k_work_submit_to_queue`.
     Submit(Ref, Option<Ref>),

@@ -23,7 +23,7 @@ use zk_words::{
 };
 
 /// What speaks against a word in its slot, or against a line's words in theirs.
-#[derive(Clone, Copy, Debug)]
+#[derive(Clone, Copy)]
 pub enum Wrong {
     /// A number is out of its range.
     OutOfRange,

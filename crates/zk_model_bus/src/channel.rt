@@ -63,7 +63,7 @@ pub enum ChanReply {
 }
 
 /// By which call a player holds a channel.
-#[derive(Clone, Copy, Debug, PartialEq, Eq)]
+#[derive(Clone, Copy, PartialEq, Eq)]
 pub enum Manner {
     /// By an offer: a publish.
     Offer,
@@ -74,7 +74,7 @@ pub enum Manner {
 }
 
 /// Who holds a channel.
-#[derive(Clone, Copy, Debug, PartialEq, Eq)]
+#[derive(Clone, Copy, PartialEq, Eq)]
 pub struct Holder {
     /// The number of the player.
     pub player: u32,
@@ -83,7 +83,7 @@ pub struct Holder {
 }
 
 /// An observer of a channel.
-#[derive(Clone, Copy, Debug, PartialEq, Eq)]
+#[derive(Clone, Copy, PartialEq, Eq)]
 pub struct ChanObserver {
     /// Its number among all objects.
     pub number: u32,

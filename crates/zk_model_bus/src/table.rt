@@ -52,7 +52,7 @@ pub enum TableReply {
 }
 
 /// What the table reads of an entry of its history.
-#[derive(Clone, Copy, Debug, PartialEq, Eq)]
+#[derive(Clone, Copy, PartialEq, Eq)]
 pub struct TableEntry {
     /// The number of the player whose step this was.
     pub player: u32,

@@ -31,7 +31,7 @@ pub enum ClockReply {
 }
 
 /// An alarm that was set and hasn't ended.
-#[derive(Clone, Copy, Debug, PartialEq, Eq)]
+#[derive(Clone, Copy, PartialEq, Eq)]
 pub struct Alarm {
     /// The player who set it.
     pub player: u32,

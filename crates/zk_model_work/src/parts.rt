@@ -2,7 +2,7 @@ ghost use Rattle.std.specs.Prelude.{◌≡◌};
 ghost use Rattle.zk_model_work.specs.Questions.{is_waiting, is_running, is_open, is_ended, is_live};
 
 /// What has become of an admission so far.
-#[derive(Clone, Copy, Debug)]
+#[derive(Clone, Copy)]
 pub enum Life {
     /// It stands in its queue's line.
     Waiting,
@@ -45,7 +45,7 @@ impl Life {
 }
 
 /// One acceptance of an item to a queue. Its number is its place among all admissions.
-#[derive(Clone, Copy, Debug)]
+#[derive(Clone, Copy)]
 pub struct Admission {
     /// The item that was accepted.
     pub item: u32,
@@ -56,7 +56,7 @@ pub struct Admission {
 }
 
 /// What has become of an arming so far.
-#[derive(Clone, Copy, Debug)]
+#[derive(Clone, Copy)]
 pub enum Fate {
     /// Its deadline is ahead.
     Live,
@@ -76,7 +76,7 @@ impl Fate {
 }
 
 /// One arming of an item with a delay. Its place among all armings is their order.
-#[derive(Clone, Copy, Debug)]
+#[derive(Clone, Copy)]
 pub struct Arm {
     /// The item that was armed.
     pub item: u32,
@@ -89,7 +89,7 @@ pub struct Arm {
 }
 
 /// What a player waits for.
-#[derive(Clone, Copy, Debug)]
+#[derive(Clone, Copy)]
 pub enum Awaited {
     /// The end of this run, which a cancel found.
     Cancel(u64),
@@ -100,7 +100,7 @@ pub enum Awaited {
 }
 
 /// A wait that an entry began.
-#[derive(Clone, Copy, Debug)]
+#[derive(Clone, Copy)]
 pub struct Wait {
     /// The place of the entry that began it.
     pub place: u64,
@@ -113,7 +113,7 @@ pub struct Wait {
 }
 
 /// A work queue.
-#[derive(Clone, Copy, Debug)]
+#[derive(Clone, Copy)]
 pub struct Queue {
     /// The player who runs its items.
     pub worker: u32,
@@ -128,7 +128,7 @@ pub struct Queue {
 }
 
 /// What the answers of the work machine ask of an item.
-#[derive(Clone, Copy, Debug)]
+#[derive(Clone, Copy)]
 pub struct Item {
     /// Its run is being cancelled.
     pub cancelling: bool,
@@ -145,7 +145,7 @@ pub struct Item {
 }
 
 /// What an operation changes of a queue.
-#[derive(Clone, Copy, Debug)]
+#[derive(Clone, Copy)]
 pub enum Change {
     /// It takes items from now on.
     Start,
@@ -158,7 +158,7 @@ pub enum Change {
 }
 
 /// Which kind of wait an operation ends.
-#[derive(Clone, Copy, Debug)]
+#[derive(Clone, Copy)]
 pub enum Closing {
     /// That of a sync cancel.
     Cancel,

@@ -8,7 +8,7 @@ use zk_base::MOST_PLAYERS;
 use zk_model_bus::{Kind, Need, OopsWhy, TableOp, TableReply};
 
 /// What is kept of an object.
-#[derive(Clone, Copy, Debug)]
+#[derive(Clone, Copy)]
 pub struct Object {
     /// What it is.
     pub kind: Kind,

@@ -9,7 +9,7 @@ use zk_base::MOST_PLAYERS;
 const PLAYER_WORDS: usize = ((MOST_PLAYERS - 1) / WORD_BITS + 1) as usize;
 
 /// A set of players that a scenario can have: the player p is bit p % 64 of word p / 64.
-#[derive(Clone, Copy, Debug)]
+#[derive(Clone, Copy)]
 pub struct PlayerSet {
     words: [u64; PLAYER_WORDS],
 }

@@ -8,7 +8,7 @@ use std::marker::Model;
 use zk_base::{NoMemory, Who};
 
 /// Who is registered for a note.
-#[derive(Clone, Copy, Debug, PartialEq, Eq)]
+#[derive(Clone, Copy, PartialEq, Eq)]
 pub struct Member {
     /// The place of the entry that registered it.
     pub place: u64,

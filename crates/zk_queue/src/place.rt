@@ -1,5 +1,5 @@
 /// Where the entry of an item that waits stands.
-#[derive(Clone, Copy, Debug)]
+#[derive(Clone, Copy)]
 pub struct Place {
     /// In which queue's ring.
     pub queue: u32,

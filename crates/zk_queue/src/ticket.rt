@@ -1,5 +1,5 @@
 /// An admission that waits or runs.
-#[derive(Clone, Copy, Debug)]
+#[derive(Clone, Copy)]
 pub struct Ticket {
     /// The item that was admitted.
     pub item: u32,

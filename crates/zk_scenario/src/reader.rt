@@ -22,9 +22,9 @@ use std::alloc::Global;
 use std::marker::Model;
 use zk_base::{Listed, MOST_PLAYERS, NoMemory, make_room_for_one, push_within};
 use zk_line::{
-    Arg, Args, Call, Decl, Declared, Objects, Ref, Wrong, call_of, decl_of, first_object,
-    has_many_events, has_many_observers, is_item_at, is_listener_at, is_user_at, is_user_call,
-    judge_words, permission_of, put_call_of, say_words,
+    Arg, Args, Call, Decl, Declared, Objects, Ref, Wrong, decl_of, first_object, has_many_events,
+    has_many_observers, is_item_at, is_listener_at, is_user_at, is_user_call, judge_words,
+    permission_of, put_call_of, say_words,
 };
 use zk_words::{Head, Kind, Line, Parts, Word, Words, call_row, head_of, line_of, makes_player};
 
@@ -425,9 +425,10 @@ impl Reader {
         ensures { IfOk result (λ done. after self.old (Head.Call word) parts.now ≡ accepted done self.new) }
     {
         let _valid = &self.calls;
-        let Some(call) = call_of(word, args) else {
+        let mut call = Call::User;
+        if !put_call_of(&mut call, word, args) {
             return Ok(false);
-        };
+        }
         self.call(&call)?;
         Ok(true)
     }

@@ -10,7 +10,7 @@ use zk_base::{Service, Who};
 use zk_worker::{Services, Step};
 
 /// One of the services of a scenario; an object's is named by the object's number.
-#[derive(Clone, Copy, Debug)]
+#[derive(Clone, Copy)]
 pub enum ServiceId {
     /// The work service.
     Work,

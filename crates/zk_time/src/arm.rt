@@ -1,5 +1,5 @@
 /// An item that is armed, as the list keeps it.
-#[derive(Clone, Copy, Debug, PartialEq, Eq)]
+#[derive(Clone, Copy, PartialEq, Eq)]
 pub struct Arm {
     /// The item that is armed.
     pub item: u32,

@@ -5,7 +5,7 @@ ghost use Rattle.zk_time.specs.Deltas.{is_arm_of, span, earlier, later, longer, 
 use crate::arm::Arm;
 
 /// Where an arm goes in among those that are kept latest first, and its delta there.
-#[derive(Clone, Copy, Debug)]
+#[derive(Clone, Copy)]
 pub struct Place {
     /// How many expire later.
     pub index: usize,

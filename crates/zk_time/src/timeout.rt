@@ -1,5 +1,5 @@
 /// An item that is armed, and when it expires.
-#[derive(Clone, Copy, Debug, PartialEq, Eq)]
+#[derive(Clone, Copy, PartialEq, Eq)]
 pub struct Timeout {
     /// The item that is armed.
     pub item: u32,

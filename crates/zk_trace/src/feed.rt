@@ -5,7 +5,7 @@ use crate::halves::halves;
 use std::marker::Model;
 
 /// The lines of a text that are still to be read: those that have their line feed.
-#[derive(Debug, Drop)]
+#[derive(Drop)]
 pub struct Feed<'a> {
     // What stands behind the last feed that was passed.
     rest: &'a [u8],

@@ -6,7 +6,7 @@ use zk_base::{Listed, NoMemory};
 use zk_worker::{Spot, Spots};
 
 /// A slot for each step of a player, in which stands where that step stands.
-#[derive(Debug, Drop)]
+#[derive(Drop)]
 pub struct Slots {
     // By the number of the step; a free slot has none.
     spots: Vec<Option<Spot>>,

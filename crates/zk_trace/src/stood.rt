@@ -1,7 +1,7 @@
 use zk_worker::Spot;
 
 /// A line of an entry or a look: whose step it is, and where it stands.
-#[derive(Clone, Copy, Debug, PartialEq, Eq)]
+#[derive(Clone, Copy, PartialEq, Eq)]
 pub struct Stood {
     /// The number of the player.
     pub player: u32,
@@ -12,7 +12,7 @@ pub struct Stood {
 }
 
 /// A kind of services of which there are many.
-#[derive(Clone, Copy, Debug, PartialEq, Eq)]
+#[derive(Clone, Copy, PartialEq, Eq)]
 pub enum Family {
     Sem,
     Msgq,
@@ -22,7 +22,7 @@ pub enum Family {
 }
 
 /// A service that has entries.
-#[derive(Clone, Copy, Debug, PartialEq, Eq)]
+#[derive(Clone, Copy, PartialEq, Eq)]
 pub enum Home {
     Work,
     Clock,

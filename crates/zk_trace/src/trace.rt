@@ -8,7 +8,7 @@ use zk_model_work::{WorkOp, WorkReply};
 use zk_worker::Log;
 
 /// How a run ended.
-#[derive(Clone, Copy, Debug, PartialEq, Eq)]
+#[derive(Clone, Copy, PartialEq, Eq)]
 pub enum Ending {
     /// Each thread is through its script, each worker is between two runs, and no admission waits.
     Ended,
@@ -28,7 +28,7 @@ pub type Histories<O, R> = Listed<History<O, R>>;
 pub type Logs = Listed<Log>;
 
 /// All that a run of a scenario did.
-#[derive(Debug, Drop)]
+#[derive(Drop)]
 pub struct Trace {
     /// How the run ended.
     pub ending: Ending,

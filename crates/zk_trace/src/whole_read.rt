@@ -23,7 +23,7 @@ use zk_scenario::Scenario;
 use zk_worker::{Answers, PlayerState};
 
 /// What the services did of which there is one.
-#[derive(Debug, Drop)]
+#[derive(Drop)]
 pub struct Singles {
     /// The history of the work service.
     pub work: History<WorkOp, WorkReply>,
@@ -39,7 +39,7 @@ pub struct Singles {
 pub type SignalLines = (History<SignalOp, SignalReply>, Listed<SignalLook>);
 
 /// What the services did of which there are many, by object number.
-#[derive(Debug, Drop)]
+#[derive(Drop)]
 pub struct Families {
     /// The histories of the semaphores.
     pub sems: Histories<SemOp, SemReply>,
@@ -57,7 +57,7 @@ pub struct Families {
 pub type Players = Listed<(PlayerState, Answers)>;
 
 /// All that stands in the text of a trace.
-#[derive(Debug, Drop)]
+#[derive(Drop)]
 pub struct Whole {
     /// How the run ended.
     pub ending: Ending,

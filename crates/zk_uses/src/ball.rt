@@ -8,7 +8,7 @@ use zk_base::{NoMemory, push_within};
 use zk_pool::Numbered;
 
 /// What is juggled: balls of one color, each with a number, which count how often they were caught.
-#[derive(Drop, Debug)]
+#[derive(Drop)]
 pub struct Ball {
     pub number: u32,
     pub color: u32,

@@ -2,7 +2,7 @@ ghost use Rattle.std.specs.Prelude.{◌≡◌, map, string_bytes};
 ghost use Rattle.zk_view.specs.Views.{view_of};
 
 /// What is shown of a run.
-#[derive(Clone, Copy, Debug, PartialEq, Eq)]
+#[derive(Clone, Copy, PartialEq, Eq)]
 pub enum View {
     /// `text`: a chart in lines of at most 120 characters.
     Text,

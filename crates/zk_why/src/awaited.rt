@@ -8,7 +8,7 @@ use zk_trace::{History, Trace};
 use zk_worker::{Log, Spot};
 
 /// Whoever a call waits for by what that player does: it holds a channel, or runs an item.
-#[derive(Clone, Copy, Debug)]
+#[derive(Clone, Copy)]
 pub struct Keeper {
     pub player: usize,
     /// Since which of its own steps.

@@ -1,7 +1,7 @@
 /// What is wrong with a refused line, more finely than its reason says.
 ///
 /// The sentences stand here alone, and again in the table of docs/FORMATS.md; `bench/causes` compares both.
-#[derive(Clone, Copy, Debug, PartialEq, Eq)]
+#[derive(Clone, Copy, PartialEq, Eq)]
 pub enum Cause {
     // The whole input, and its first line.
     TooLong,

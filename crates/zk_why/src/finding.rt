@@ -2,7 +2,7 @@ use crate::Cause;
 use zk_words::{Choice, Head, Need};
 
 /// Which bytes of a line are meant.
-#[derive(Clone, Copy, Debug, PartialEq, Eq)]
+#[derive(Clone, Copy, PartialEq, Eq)]
 pub struct Mark {
     /// The place of the first, from 0.
     pub from: usize,
@@ -11,7 +11,7 @@ pub struct Mark {
 }
 
 /// What would be accepted instead.
-#[derive(Clone, Copy, Debug)]
+#[derive(Clone, Copy)]
 pub enum Accepted {
     /// These words say it.
     Text(&'static [u8]),
@@ -34,7 +34,7 @@ pub enum Accepted {
 }
 
 /// What was found to be wrong with a line.
-#[derive(Clone, Copy, Debug)]
+#[derive(Clone, Copy)]
 pub struct Finding {
     pub cause: Cause,
     /// There is none where no word of the line is meant.

@@ -3,7 +3,7 @@ use zk_line::put_call;
 use zk_scenario::{Call, Scenario};
 
 /// A call of a script.
-#[derive(Clone, Copy, Debug, PartialEq, Eq)]
+#[derive(Clone, Copy, PartialEq, Eq)]
 pub struct Place {
     /// The object whose script it is.
     pub owner: u32,

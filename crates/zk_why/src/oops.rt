@@ -12,7 +12,7 @@ use zk_words::{Kind, Need};
 use zk_worker::Spot;
 
 /// A check that failed.
-#[derive(Clone, Copy, Debug)]
+#[derive(Clone, Copy)]
 struct FailedCheck {
     /// There is none where the name is no object's.
     object: Option<u32>,

@@ -3,7 +3,7 @@ ghost use Rattle.std.specs.Prelude.{◌<◌, length, IfSome};
 use zk_words::{Line, Parts, Slot, Words, line_of};
 
 /// A word of a line.
-#[derive(Clone, Copy, Debug)]
+#[derive(Clone, Copy)]
 pub struct PlacedWord<'a> {
     pub text: &'a [u8],
     /// The place of its first byte, from 0.
@@ -11,7 +11,7 @@ pub struct PlacedWord<'a> {
 }
 
 /// The words of a line with their places, from left to right.
-#[derive(Debug, Drop)]
+#[derive(Drop)]
 pub struct PlacedWords<'a> {
     words: Words<'a>,
     from: usize,
@@ -36,7 +36,7 @@ impl<'a> PlacedWords<'a> {
 }
 
 /// A word of a line that has the form of its first word.
-#[derive(Clone, Copy, Debug)]
+#[derive(Clone, Copy)]
 pub struct PlacedPart<'a> {
     pub slot: Slot,
     pub text: &'a [u8],
@@ -45,7 +45,7 @@ pub struct PlacedPart<'a> {
 }
 
 /// The words behind the first of such a line, with their places, from left to right.
-#[derive(Debug, Drop)]
+#[derive(Drop)]
 pub struct PlacedParts<'a> {
     parts: Parts<'a>,
     from: usize,

@@ -63,7 +63,7 @@ pub fn serving_text(waiting: &Call) -> &'static [u8] {
 }
 
 /// What a call waits for, in words around the name of its object.
-#[derive(Clone, Copy, Debug)]
+#[derive(Clone, Copy)]
 pub struct Awaited {
     pub front: &'static [u8],
     /// There is none where it waits for one of several.

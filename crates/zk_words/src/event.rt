@@ -5,7 +5,7 @@ use crate::matching::is_same;
 use zk_base::{Need, is_spelled};
 
 /// What a poll can wait for.
-#[derive(Clone, Copy, Debug)]
+#[derive(Clone, Copy)]
 pub enum Source {
     /// That a semaphore can be taken.
     Sem,
@@ -16,7 +16,7 @@ pub enum Source {
 }
 
 /// What an event asks for: a source of its kind, by its name.
-#[derive(Clone, Copy, Debug)]
+#[derive(Clone, Copy)]
 pub struct Asked<'a> {
     pub source: Source,
     pub name: &'a [u8],

@@ -9,7 +9,7 @@ use crate::table::row_of;
 use crate::word::Head;
 
 /// One line of a scenario behind the first, by its spelling alone.
-#[derive(Debug, Drop)]
+#[derive(Drop)]
 pub enum Line<'a> {
     /// No form of a line, or a wrong spelling.
     Misspelled,

@@ -7,14 +7,14 @@ use crate::table::Row;
 use std::marker::Model;
 
 /// A word of a line, and the slot that it stands in.
-#[derive(Clone, Copy, Debug)]
+#[derive(Clone, Copy)]
 pub struct Part<'a> {
     pub slot: Slot,
     pub text: &'a [u8],
 }
 
 /// The words of a line behind its first, each in its slot, from left to right.
-#[derive(Debug, Drop)]
+#[derive(Drop)]
 pub struct Parts<'a> {
     slots: &'static [Slot],
     rest: Rest,

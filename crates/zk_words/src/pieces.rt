@@ -5,7 +5,7 @@ use std::marker::Model;
 
 /// What stands between the separators of a text, from left to right. Two separators side by side have an
 /// empty piece between them, and a separator at an end of the text has one outside.
-#[derive(Debug, Drop)]
+#[derive(Drop)]
 pub struct Pieces<'a, const SEPARATOR: u8> {
     // What stands behind the last separator that was passed. It counts only while there is more.
     rest: &'a [u8],

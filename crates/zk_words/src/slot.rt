@@ -1,7 +1,7 @@
 use zk_base::Need;
 
 /// One of two words, the first of which is true.
-#[derive(Clone, Copy, Debug)]
+#[derive(Clone, Copy)]
 pub enum Choice {
     /// `user` or `super`.
     Mode,
@@ -12,7 +12,7 @@ pub enum Choice {
 }
 
 /// What stands for one word of a line.
-#[derive(Clone, Copy, Debug)]
+#[derive(Clone, Copy)]
 pub enum Slot {
     /// The name of a new object.
     New,
@@ -41,7 +41,7 @@ pub enum Slot {
 }
 
 /// What may stand behind the slots.
-#[derive(Clone, Copy, Debug)]
+#[derive(Clone, Copy)]
 pub enum Rest {
     Nothing,
     /// One word or none.

@@ -10,7 +10,7 @@ use std::marker::Model;
 use zk_base::{Kind, LONGEST_MESSAGE, MOST_HELD, Need};
 
 /// A form of a line: its first word, the slots behind that, and what may stand behind those.
-#[derive(Debug, Drop)]
+#[derive(Drop)]
 pub struct Row {
     pub first: &'static [u8],
     pub slots: &'static [Slot],

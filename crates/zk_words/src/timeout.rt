@@ -6,7 +6,7 @@ use crate::matching::is_same;
 use crate::numbers::{is_number, number_in};
 
 /// How long a call waits.
-#[derive(Clone, Copy, Debug, PartialEq, Eq)]
+#[derive(Clone, Copy, PartialEq, Eq)]
 pub enum Timeout {
     /// Not at all. Zephyr's `K_NO_WAIT`.
     No,

@@ -47,7 +47,7 @@ pub enum Word {
 }
 
 /// What a line's first word says that the line is.
-#[derive(Clone, Copy, Debug)]
+#[derive(Clone, Copy)]
 pub enum Head {
     /// The declaration of an object of this kind.
     Declare(Kind),

@@ -10,7 +10,7 @@ use zk_model_bus::OopsWhy;
 use zk_words::Word;
 
 /// What a call was answered. Of a message it has the place among those that stand apart.
-#[derive(Clone, Copy, Debug)]
+#[derive(Clone, Copy)]
 pub enum Brief {
     Number(u64),
     Flags(u8),
@@ -24,7 +24,7 @@ pub enum Brief {
 }
 
 /// An answered call, as it is kept.
-#[derive(Clone, Copy, Debug)]
+#[derive(Clone, Copy)]
 pub struct AnswerRow {
     pub step: u32,
     pub word: Word,
@@ -32,7 +32,7 @@ pub struct AnswerRow {
 }
 
 /// The answered calls of a player while it plays: contracts see them with the room that there is for more.
-#[derive(Debug, Drop)]
+#[derive(Drop)]
 pub struct AnswerRows {
     rows: Vec<AnswerRow>,
     messages: Vec<Msg>,

@@ -47,7 +47,7 @@ pub struct Answered {
 }
 
 /// The answered calls of a player, in the order of their answers.
-#[derive(Debug, Drop)]
+#[derive(Drop)]
 pub struct Answers {
     rows: AnswerRows,
 }

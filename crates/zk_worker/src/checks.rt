@@ -9,7 +9,7 @@ use zk_model_bus::{Need, OopsWhy, TableOp, TableReply};
 use zk_scenario::{Call, Decl, Scenario, word_of};
 
 /// What a player may do.
-#[derive(Clone, Copy, Debug, PartialEq, Eq)]
+#[derive(Clone, Copy, PartialEq, Eq)]
 pub enum Mode {
     /// Its calls aren't checked: it is a supervisor thread, or a worker.
     Supervisor,
@@ -20,7 +20,7 @@ pub enum Mode {
 }
 
 /// What a user's call asks of the object table before all else.
-#[derive(Clone, Copy, Debug)]
+#[derive(Clone, Copy)]
 pub struct Check {
     /// The call.
     pub word: Word,

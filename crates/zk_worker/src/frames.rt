@@ -7,7 +7,7 @@ use zk_words::Timeout;
 pub const MOST_FRAMES: usize = 18;
 
 /// How a call goes: which steps it makes in which order.
-#[derive(Clone, Copy, Debug)]
+#[derive(Clone, Copy)]
 pub enum Plan {
     /// One step, whose reply it answers.
     One(Step),
@@ -27,7 +27,7 @@ pub enum Plan {
 }
 
 /// What a call does with the channel that it has got.
-#[derive(Clone, Copy, Debug)]
+#[derive(Clone, Copy)]
 pub enum Using {
     /// It puts this message in, and visits the observers. Zephyr's `zbus_chan_pub`.
     Publish(Msg),
@@ -38,7 +38,7 @@ pub enum Using {
 }
 
 /// What a call waits for, at the object of this number.
-#[derive(Clone, Copy, Debug)]
+#[derive(Clone, Copy)]
 pub enum Waiting {
     /// Taking a semaphore.
     Take(u32),
@@ -57,7 +57,7 @@ pub enum Waiting {
 }
 
 /// The step that ends a wait, by the place of the entry that began it.
-#[derive(Clone, Copy, Debug)]
+#[derive(Clone, Copy)]
 pub enum Closing {
     /// The end of a sync cancel.
     Cancel,
@@ -68,7 +68,7 @@ pub enum Closing {
 }
 
 /// How far an event of a poll is.
-#[derive(Clone, Copy, Debug, PartialEq, Eq)]
+#[derive(Clone, Copy, PartialEq, Eq)]
 pub enum Mark {
     /// It isn't asked yet.
     Unasked,
@@ -81,7 +81,7 @@ pub enum Mark {
 }
 
 /// The alarm of a poll.
-#[derive(Clone, Copy, Debug, PartialEq, Eq)]
+#[derive(Clone, Copy, PartialEq, Eq)]
 pub enum Alarm {
     /// There is none.
     Unset,
@@ -92,7 +92,7 @@ pub enum Alarm {
 }
 
 /// How far a call or a run has come.
-#[derive(Clone, Copy, Debug, PartialEq, Eq)]
+#[derive(Clone, Copy, PartialEq, Eq)]
 pub enum Stage {
     /// Nothing of it was done.
     Start,
@@ -119,7 +119,7 @@ pub enum Stage {
 }
 
 /// What is played.
-#[derive(Clone, Copy, Debug, PartialEq, Eq)]
+#[derive(Clone, Copy, PartialEq, Eq)]
 pub enum Role {
     /// The script of this object.
     Script(u32),
@@ -128,7 +128,7 @@ pub enum Role {
 }
 
 /// A script or a run that is open, and how far it has come.
-#[derive(Clone, Copy, Debug, PartialEq, Eq)]
+#[derive(Clone, Copy, PartialEq, Eq)]
 pub struct Frame {
     /// What is played.
     pub role: Role,
@@ -139,7 +139,7 @@ pub struct Frame {
 }
 
 /// How a frame goes on by the reply to its step, where its stage and the answer stand already.
-#[derive(Clone, Copy, Debug, PartialEq, Eq)]
+#[derive(Clone, Copy, PartialEq, Eq)]
 pub enum Moved {
     /// It goes on at its stage.
     Goes,
@@ -150,7 +150,7 @@ pub enum Moved {
 }
 
 /// What a reply does to the frame whose step it answers.
-#[derive(Clone, Copy, Debug)]
+#[derive(Clone, Copy)]
 pub enum Progress {
     /// It goes on at this stage.
     Goes(Stage),

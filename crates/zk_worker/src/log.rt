@@ -1,7 +1,7 @@
 use crate::{Answers, Spots};
 
 /// How a player stands.
-#[derive(Clone, Copy, Debug, PartialEq, Eq)]
+#[derive(Clone, Copy, PartialEq, Eq)]
 pub enum PlayerState {
     /// It has made all the steps that a player may make.
     Spent,
@@ -14,7 +14,7 @@ pub enum PlayerState {
 }
 
 /// What a player has done.
-#[derive(Debug, Drop)]
+#[derive(Drop)]
 pub struct Log {
     /// How it stands.
     pub state: PlayerState,

@@ -16,7 +16,7 @@ use zk_base::NoMemory;
 use zk_scenario::Scenario;
 
 /// What came of the next step of a player.
-#[derive(Clone, Copy, Debug, PartialEq, Eq)]
+#[derive(Clone, Copy, PartialEq, Eq)]
 pub enum Stepped {
     /// The step was made.
     Did,

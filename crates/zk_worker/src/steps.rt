@@ -35,7 +35,7 @@ pub enum Step {
 }
 
 /// What a step was answered.
-#[derive(Debug, Drop, PartialEq)]
+#[derive(Drop, PartialEq)]
 pub enum StepReply {
     /// The work service's reply, and the place of the entry in its history, from 0.
     Work(WorkReply, u64),
