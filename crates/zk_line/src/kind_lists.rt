@@ -1,9 +1,9 @@
-ghost use Rattle.std.specs.Prelude.{◌≡◌, ◌<◌, [], IfOk, vec_len, vec_capacity};
+ghost use Rattle.std.specs.Prelude.{◌≡◌, ◌<◌, [], IfOk, OnOk, vec_len, vec_capacity};
 ghost use Rattle.zk_line.specs.Objects.{is_thread, is_queue, is_item, is_sem, is_msgq, is_signal, is_chan, is_observer, with_object};
 
 use crate::types::Decl;
 use std::alloc::Global;
-use zk_base::{NoMemory, push_within};
+use zk_base::{NoMemory, make_room_for_one, push_within};
 
 /// The object numbers of the declarations of each kind, in order.
 #[derive(Drop)]
@@ -64,6 +64,36 @@ impl Lists {
             chans: Vec::from_slice(alloc, &self.chans)?,
             observers: Vec::from_slice(alloc, &self.observers)?,
         })
+    }
+
+    /// Room in each list for one object more.
+    pub fn make_room(&mut self) -> Result<(), NoMemory>
+        ensures threads { self.new.threads.items ≡ self.old.threads.items }
+        ensures queues { self.new.queues.items ≡ self.old.queues.items }
+        ensures items { self.new.items.items ≡ self.old.items.items }
+        ensures sems { self.new.sems.items ≡ self.old.sems.items }
+        ensures msgqs { self.new.msgqs.items ≡ self.old.msgqs.items }
+        ensures signals { self.new.signals.items ≡ self.old.signals.items }
+        ensures chans { self.new.chans.items ≡ self.old.chans.items }
+        ensures observers { self.new.observers.items ≡ self.old.observers.items }
+        ensures thread_room { OnOk result (vec_len self.new.threads < vec_capacity self.new.threads) }
+        ensures queue_room { OnOk result (vec_len self.new.queues < vec_capacity self.new.queues) }
+        ensures item_room { OnOk result (vec_len self.new.items < vec_capacity self.new.items) }
+        ensures sem_room { OnOk result (vec_len self.new.sems < vec_capacity self.new.sems) }
+        ensures msgq_room { OnOk result (vec_len self.new.msgqs < vec_capacity self.new.msgqs) }
+        ensures signal_room { OnOk result (vec_len self.new.signals < vec_capacity self.new.signals) }
+        ensures chan_room { OnOk result (vec_len self.new.chans < vec_capacity self.new.chans) }
+        ensures observer_room { OnOk result (vec_len self.new.observers < vec_capacity self.new.observers) }
+    {
+        make_room_for_one(&mut self.threads)?;
+        make_room_for_one(&mut self.queues)?;
+        make_room_for_one(&mut self.items)?;
+        make_room_for_one(&mut self.sems)?;
+        make_room_for_one(&mut self.msgqs)?;
+        make_room_for_one(&mut self.signals)?;
+        make_room_for_one(&mut self.chans)?;
+        make_room_for_one(&mut self.observers)?;
+        Ok(())
     }
 }
 

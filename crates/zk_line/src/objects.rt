@@ -207,14 +207,7 @@ impl Objects {
         let number = self.count(kind_of(&decl)) as u32;
         make_room_for_one(&mut self.decls)?;
         make_room_for_one(&mut self.numbers)?;
-        make_room_for_one(&mut self.lists.threads)?;
-        make_room_for_one(&mut self.lists.queues)?;
-        make_room_for_one(&mut self.lists.items)?;
-        make_room_for_one(&mut self.lists.sems)?;
-        make_room_for_one(&mut self.lists.msgqs)?;
-        make_room_for_one(&mut self.lists.signals)?;
-        make_room_for_one(&mut self.lists.chans)?;
-        make_room_for_one(&mut self.lists.observers)?;
+        self.lists.make_room()?;
         let object = self.decls.len() as u32;
         self.names.insert(alloc, name_of(&decl), object)?;
         add_to_kind(&mut self.lists, &decl, object);
