@@ -1,0 +1,6 @@
+mod Players
+pub mod Semaphores
+pub mod MessageQueues
+pub mod SignalsAndClock
+pub mod Zbus
+pub mod WorkQueues
