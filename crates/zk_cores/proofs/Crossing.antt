@@ -13,8 +13,8 @@ use Rattle.zk_pool.proofs.Crossing.{keeper_send, pool_sync}
 use Rattle.zk_pool.specs.contracts.pool.Pool as pool
 use Rattle.zk_cores.specs.contracts.seat.Seat as seat
 use Rattle.zk_cores.specs.contracts.seat.SeatNumbered.TheImpl.{ghosts}
-use Rattle.zk_cores.specs.contracts.crew.Core as core
-use Rattle.zk_cores.specs.contracts.meeting.Meeting as meeting
+use Rattle.zk_cores.specs.contracts.cores.Core as core
+use Rattle.zk_cores.specs.contracts.barrier.Barrier as barrier
 
 pub seat_send : IsSend seat.the_row
 seat_send = search (caller_send, sendable, crosses) depth 30
@@ -35,8 +35,8 @@ seats_row = pool.the_row seat.the_row kernel.the_row ghosts
 pub seats_sync : IsSync seats_row
 seats_sync = pool_sync seat.the_row kernel.the_row ghosts seat_send
 
-pub meeting_sync : IsSync meeting.the_row
-meeting_sync = search (sendable, crosses) depth 20
+pub barrier_sync : IsSync barrier.the_row
+barrier_sync = search (sendable, crosses) depth 20
 
 -- a closure may be shared where the five things that it holds may
 pub closure_of_five : (ν : Sym) (A B C D E : RattleType) → IsSync A → IsSync B → IsSync C → IsSync D → IsSync E →

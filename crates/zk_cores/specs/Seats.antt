@@ -6,7 +6,7 @@ use Rattle.zk_kernel.specs.Kernels.{Shared}
 use Rattle.zk_pool.specs.declared.pool.Pool.{Pool}
 use Rattle.zk_pool.specs.Keepers.{Keeps, keeper_aside}
 use Rattle.zk_cores.specs.declared.seat.Seat.{Seat}
-use Rattle.zk_cores.specs.declared.crew.Core.{Core}
+use Rattle.zk_cores.specs.declared.cores.Core.{Core}
 
 -- the caller in a seat
 abbrev pub seat_caller : Seat → Caller

@@ -2,9 +2,9 @@
 //! on by one thread until no player can go on.
 #![tactic(auto)]
 
-mod crew;
+mod barrier;
+mod cores;
 mod finish;
-mod meeting;
 mod round;
 mod run;
 mod seat;

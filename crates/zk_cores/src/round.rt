@@ -2,8 +2,8 @@ ghost use Rattle.std.specs.Prelude.{◌≡◌, ◌<◌, Some, All, length, vec_l
 ghost use Rattle.zk_pool.specs.Hands.{pool_home};
 ghost use Rattle.zk_cores.specs.Seats.{seat_number, seat_kernel, IsSeated, IsAtWork, IsReady};
 
-use crate::crew::Core;
-use crate::meeting::Meeting;
+use crate::barrier::Barrier;
+use crate::cores::Core;
 use crate::seat::Seat;
 use std::hint;
 use std::sync::Wait;
@@ -91,22 +91,25 @@ fn play_round<R: Wait, G: Gate>(
 }
 
 /// Plays as far as it gets, once the other cores have come too, and then gives back whom it kept. After a round without a step it
-/// looks away, the longer the more such rounds there were.
+/// looks away, the longer the more such rounds there were. Where any core was refused memory it plays no further round.
 fn play_core<R: Wait, G: Gate>(
     rt: &R,
     kernel: &Kernel,
     pool: &Pool<Seat>,
     gate: &G,
-    meeting: &Meeting,
+    barrier: &Barrier,
     core: &mut Core,
 )
     requires home { pool_home seat_kernel pool.now ≡ Some kernel.now }
     requires ready { IsReady pool.now core.old }
     ensures ready { IsReady pool.now core.new }
 {
-    meeting.come();
+    barrier.wait();
     let mut still = 0;
     for _ in rt.forever() {
+        if barrier.is_refused() {
+            break;
+        }
         match play_round(rt, kernel, pool, gate, core) {
             Ok(true) => still = 0,
             Ok(false) if still < STILL_ROUNDS => {
@@ -116,6 +119,7 @@ fn play_core<R: Wait, G: Gate>(
             Ok(false) => break,
             Err(NoMemory) => {
                 core.refused = true;
+                barrier.refuse();
                 break;
             }
         }
@@ -137,25 +141,25 @@ fn pause(number: u32) {
 }
 
 /// Plays the callers of a pool on all these cores. Where fewer threads can be made, some cores play one after the other.
-pub fn play_crew<R: Threads + Wait + Sync, G: Gate + Sync>(
+pub fn play_cores<R: Threads + Wait + Sync, G: Gate + Sync>(
     rt: &R,
     kernel: &Kernel,
     pool: &Pool<Seat>,
     gate: &G,
-    crew: &mut Vec<Core>,
+    core_list: &mut Vec<Core>,
 )
-    requires some { 0 < vec_len crew.old }
+    requires some { 0 < vec_len core_list.old }
     requires home { pool_home seat_kernel pool.now ≡ Some kernel.now }
-    requires ready { All (IsReady pool.now) crew.old.items }
-    ensures ready { All (IsReady pool.now) crew.new.items }
-    ensures count { length crew.new.items ≡ length crew.old.items }
+    requires ready { All (IsReady pool.now) core_list.old.items }
+    ensures ready { All (IsReady pool.now) core_list.new.items }
+    ensures count { length core_list.new.items ≡ length core_list.old.items }
 {
-    let cores = crew.len();
-    let meeting = Meeting::new(cores);
-    let meeting = &meeting;
+    let cores = core_list.len();
+    let barrier = Barrier::new(cores);
+    let barrier = &barrier;
     let part = move |_place: usize, core: &mut Core|
         requires { (pool_home seat_kernel pool.now ≡ Some kernel.now) × IsReady pool.now core.now }
         ensures { IsReady pool.entry.now core.exit.now }
-    { play_core(rt, kernel, pool, gate, meeting, core) };
-    thread::for_each_mut(rt, crew.as_mut_slice(), cores, &part);
+    { play_core(rt, kernel, pool, gate, barrier, core) };
+    thread::for_each_mut(rt, core_list.as_mut_slice(), cores, &part);
 }

@@ -5,9 +5,9 @@ ghost use Rattle.zk_trace.specs.Lawful.{IsLawful};
 ghost use Rattle.zk_world.specs.Over.{IsOver};
 ghost use Rattle.zk_kernel.specs.Rests.{AreAllCallers};
 
-use crate::crew::{crew_of, hands_of};
+use crate::cores::{cores_of, hands_of};
 use crate::finish::finish;
-use crate::round::play_crew;
+use crate::round::play_cores;
 use crate::seating::{seat_all, unseat_all};
 use std::alloc::Global;
 use std::sync::Wait;
@@ -39,12 +39,12 @@ fn play_callers<R: Threads + Wait + Sync, G: Gate + Sync>(
     let seats = seat_all(alloc, kernel, callers)?;
     let count = seats.len();
     let (pool, hands, room) = Pool::new(alloc, seats, cores)?;
-    let mut crew = crew_of(alloc, &pool, hands, count)?;
-    play_crew(rt, kernel, &pool, gate, &mut crew);
-    if crew.iter().any(|core| core.refused) {
+    let mut core_list = cores_of(alloc, &pool, hands, count)?;
+    play_cores(rt, kernel, &pool, gate, &mut core_list);
+    if core_list.iter().any(|core| core.refused) {
         return Err(NoMemory);
     }
-    let hands = hands_of(alloc, &pool, crew)?;
+    let hands = hands_of(alloc, &pool, core_list)?;
     let seats = pool.close(rt, hands, room);
     unseat_all(alloc, kernel, seats)
 }

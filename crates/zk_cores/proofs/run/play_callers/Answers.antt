@@ -22,21 +22,21 @@ new-requires-clause-home g c =
 pub new-requires-clause-kept : goal.new-requires-clause-kept
 new-requires-clause-kept g c = all-seated c.args.kernel.now c.in_ok-seats.seats.items c.in_ok-seats.ensures.suits
 
-pub play_crew-requires-clause-some : goal.play_crew-requires-clause-some
-play_crew-requires-clause-some g c κs within =
-    let crew = c.in_ok-crew.crew in
-    let many : length crew.items ≡ c.args.cores = c.in_ok-crew.ensures.count ∙ c.in_ok-pool.ensures.count in
-    omega (arith, many, crew.ok.0, c.requires.cores)
+pub play_cores-requires-clause-some : goal.play_cores-requires-clause-some
+play_cores-requires-clause-some g c κs within =
+    let core_list = c.in_ok-core_list.core_list in
+    let many : length core_list.items ≡ c.args.cores = c.in_ok-core_list.ensures.count ∙ c.in_ok-pool.ensures.count in
+    omega (arith, many, core_list.ok.0, c.requires.cores)
 
-pub play_crew-requires-clause-home : goal.play_crew-requires-clause-home
-play_crew-requires-clause-home g c κs within =
+pub play_cores-requires-clause-home : goal.play_cores-requires-clause-home
+play_cores-requires-clause-home g c κs within =
     let long = as-many c.in_ok-seats.seats.items c.args.callers.items c.in_ok-seats.ensures.callers in
     let some = c.requires.some in
     pool-home c.args.kernel.now c.in_ok-pool.pool c.in_ok-seats.seats.items c.in_ok-pool.ensures.pool.0 (omega arith) c.in_ok-seats.ensures.suits
 
 pub close-seats-requires-clause-all : goal.close-seats-requires-clause-all
 close-seats-requires-clause-all g c =
-    c.in_ok-hands.ensures.count ∙ c.play_crew.ensures.count ∙ c.in_ok-crew.ensures.count ∙ c.in_ok-pool.ensures.count ∙ sym c.in_ok-pool.ensures.pool.1
+    c.in_ok-hands.ensures.count ∙ c.play_cores.ensures.count ∙ c.in_ok-core_list.ensures.count ∙ c.in_ok-pool.ensures.count ∙ sym c.in_ok-pool.ensures.pool.1
 
 pub unseat_all-requires-clause-suits : goal.unseat_all-requires-clause-suits
 unseat_all-requires-clause-suits g c =

@@ -9,10 +9,10 @@ use denote.Struct.Field as Field
 use mir.Syntax.{Dict, named}
 use Rattle.zk_kernel.specs.contracts.kernel.Kernel as kernel
 use Rattle.zk_kernel.proofs.Crossing.{kernel_sync, ref_sync}
-use Rattle.zk_cores.specs.contracts.meeting.Meeting as meeting
-use Rattle.zk_cores.proofs.Crossing.{core_send, seats_row, seats_sync, meeting_sync, closure_of_five}
-use Rattle.zk_cores.proofs.round.play_crew.Lts as lts
-use Rattle.zk_cores.proofs.round.play_crew.Goals as goal
+use Rattle.zk_cores.specs.contracts.barrier.Barrier as barrier
+use Rattle.zk_cores.proofs.Crossing.{core_send, seats_row, seats_sync, barrier_sync, closure_of_five}
+use Rattle.zk_cores.proofs.round.play_cores.Lts as lts
+use Rattle.zk_cores.proofs.round.play_cores.Goals as goal
 
 pub for_each_mut-requires-send-T : goal.for_each_mut-requires-send-T
 for_each_mut-requires-send-T g c κs within =
@@ -25,12 +25,12 @@ shared R G laws laws' threads wait gate κs sync sync' =
     let to_kernel : NamedLft = record { mir = named 7; lft = κs.1.1.1.1.1.1.1.0 } in
     let to_pool : NamedLft = record { mir = named 8; lft = κs.1.1.1.1.1.1.1.1.0 } in
     let to_gate : NamedLft = record { mir = named 9; lft = κs.1.1.1.1.1.1.1.1.1.0 } in
-    let to_meeting : NamedLft = record { mir = named 10; lft = κs.1.1.1.1.1.1.1.1.1.1.0 } in
+    let to_barrier : NamedLft = record { mir = named 10; lft = κs.1.1.1.1.1.1.1.1.1.1.0 } in
     let held = closure_of_five _ (Field.shr_ref_field to_rt (param 0 R) tt).row (Field.shr_ref_field to_kernel kernel.the_row tt).row
     (Field.shr_ref_field to_pool seats_row tt).row (Field.shr_ref_field to_gate (param 1 G) tt).row
-    (Field.shr_ref_field to_meeting meeting.the_row tt).row
+    (Field.shr_ref_field to_barrier barrier.the_row tt).row
     (ref_sync to_rt (param 0 R) tt sync) (ref_sync to_kernel kernel.the_row tt kernel_sync) (ref_sync to_pool seats_row tt seats_sync) (ref_sync to_gate (param 1 G) tt sync')
-    (ref_sync to_meeting meeting.the_row tt meeting_sync) in
+    (ref_sync to_barrier barrier.the_row tt barrier_sync) in
     arg_sync _ no _ held
 
 pub for_each_mut-requires-sync-F : goal.for_each_mut-requires-sync-F

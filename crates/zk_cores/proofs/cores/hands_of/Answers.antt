@@ -3,7 +3,7 @@ use Rattle.std.proofs.lemmas.List.{length-append}
 use Rattle.std.proofs.lemmas.List.Elements.{All-push, All-head, All-tail}
 use Rattle.zk_pool.specs.Hands.{IsHandOf, hand_held}
 use Rattle.zk_cores.specs.Seats.{seat_number, seat_kernel, IsReady}
-use Rattle.zk_cores.proofs.crew.hands_of.Goals as goal
+use Rattle.zk_cores.proofs.cores.hands_of.Goals as goal
 
 pub loop-core-preserved : goal.loop-core-preserved
 loop-core-preserved c =

@@ -22,7 +22,7 @@ pub struct Core {
 }
 
 /// A core for each hand of a pool, with room for so many callers.
-pub fn crew_of(
+pub fn cores_of(
     alloc: Global,
     pool: &Pool<Seat>,
     hands: Vec<Hand<Seat>>,
@@ -30,10 +30,10 @@ pub fn crew_of(
 ) -> Result<Vec<Core>, NoMemory>
     requires room { length (pool_numbers seat_number pool.now) ≤ room }
     requires new { All (IsNewHand seat_number seat_kernel pool.now) hands.items }
-    ensures ready { IfOk result (λ crew. All (IsReady pool.now) crew.items) }
-    ensures count { IfOk result (λ crew. length crew.items ≡ length hands.items) }
+    ensures ready { IfOk result (λ core_list. All (IsReady pool.now) core_list.items) }
+    ensures count { IfOk result (λ core_list. length core_list.items ≡ length hands.items) }
 {
-    let mut crew = Vec::with_capacity(alloc, hands.len())?;
+    let mut core_list = Vec::with_capacity(alloc, hands.len())?;
     let mut number = 0;
     for hand in hands {
         let keeper = Keeper::new(alloc, pool, hand, room)?;
@@ -43,25 +43,25 @@ pub fn crew_of(
             passes: CachePadded::new(0),
             refused: false,
         };
-        push_within(&mut crew, core);
+        push_within(&mut core_list, core);
         number = number.wrapping_add(1);
     }
-    Ok(crew)
+    Ok(core_list)
 }
 
 /// The hands of these cores.
 pub fn hands_of(
     alloc: Global,
     pool: &Pool<Seat>,
-    crew: Vec<Core>,
+    core_list: Vec<Core>,
 ) -> Result<Vec<Hand<Seat>>, NoMemory>
-    requires ready { All (IsReady pool.now) crew.items }
+    requires ready { All (IsReady pool.now) core_list.items }
     ensures own { IfOk result (λ hands. All (IsHandOf seat_number seat_kernel pool.now) hands.items) }
     ensures none { IfOk result (λ hands. All (λ hand. hand_held hand ≡ []) hands.items) }
-    ensures count { IfOk result (λ hands. length hands.items ≡ length crew.items) }
+    ensures count { IfOk result (λ hands. length hands.items ≡ length core_list.items) }
 {
-    let mut hands = Vec::with_capacity(alloc, crew.len())?;
-    for core in crew {
+    let mut hands = Vec::with_capacity(alloc, core_list.len())?;
+    for core in core_list {
         let Core {
             number: _,
             keeper,
