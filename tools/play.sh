@@ -73,7 +73,7 @@ play_unproved() {
   trap 'exit 130' INT
   trap 'exit 143' TERM
   if (($(words_of "${1-}") > 0)); then
-    cat >"$room/input" || fail 'reading the input failed'
+    cat >"$room/input" || exit 5
   else
     : >"$room/input"
   fi
