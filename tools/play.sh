@@ -61,10 +61,10 @@ end_of_try() {
   rm -rf "$room"
 }
 
-# Plays one call without proofs. Its input is read whole first, since `rt try` takes one that is silent for two seconds as ended.
+# Plays one call without proofs. Its input is read whole first: `rt try` takes one that is silent for two seconds as ended.
 play_unproved() {
   local last status
-  command -v rt >/dev/null || fail "the program isn't built yet, and to play or build it the kit's command rt has to be on the PATH"
+  command -v rt >/dev/null || fail "it isn't built yet, and to play or build it the kit's command rt has to be on the PATH"
   say "not proved: nothing is built yet, so this call is played without proofs (rt try), in some two minutes"
   say "each call takes as long, until ./build has proved and built the program"
   room=$(mktemp -d) || fail 'no temporary folder can be made'
@@ -77,7 +77,8 @@ play_unproved() {
   else
     : >"$room/input"
   fi
-  (($(stat -c %s "$room/input") < most_input)) || fail 'the input is above 64 MiB, the most that can be played without proofs: run ./build first'
+  (($(stat -c %s "$room/input") < most_input)) ||
+    fail 'the input is above 64 MiB, the most that can be played without proofs: run ./build first'
   cd "$top/crates/$name" || fail "there is no folder crates/$name"
   rt try --seconds "$most_seconds" -- "$@" <"$room/input" >"$room/output" 2>"$room/said" &
   trying=$!
