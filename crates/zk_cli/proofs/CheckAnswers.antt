@@ -22,7 +22,7 @@ use Rattle.zk_trace.specs.Text.{trace_text}
 use Rattle.zk_trace.specs.TraceRead.{IsRefusedAt}
 use Rattle.zk_trace.proofs.Feeds.{lines-count}
 use Rattle.zk_trace.proofs.TraceParts.{one-parting, run-parts}
-use Rattle.zk_check.specs.declared.site.Fail.{Fail}
+use Rattle.zk_failures.specs.declared.site.Fail.{Fail}
 use Rattle.zk_check.specs.declared.verdict.Checked.{Checked}
 use Rattle.zk_check.specs.declared.verdict.Checked.TheVariants.{Lawful, Not}
 use Rattle.zk_check.specs.Checking.{IfNot, IsNamed}

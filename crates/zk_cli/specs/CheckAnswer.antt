@@ -14,11 +14,11 @@ use Rattle.zk_trace.specs.Text.{trace_text}
 use Rattle.zk_trace.specs.TraceRead.{IsRefusedAt}
 use Rattle.zk_check.specs.declared.verdict.Checked.{Checked}
 use Rattle.zk_check.specs.declared.verdict.Checked.TheVariants.{Lawful, Not}
-use Rattle.zk_check.specs.declared.site.Fail.{Fail}
-use Rattle.zk_check.specs.declared.site.Fail.TheVariants as fails
-use Rattle.zk_check.specs.declared.site.Site.{Site}
-use Rattle.zk_check.specs.Failure.{IsFailure}
-use Rattle.zk_check.specs.Lines.{line_at}
+use Rattle.zk_failures.specs.declared.site.Fail.{Fail}
+use Rattle.zk_failures.specs.declared.site.Fail.TheVariants as fails
+use Rattle.zk_failures.specs.declared.site.Site.{Site}
+use Rattle.zk_failures.specs.Failure.{IsFailure}
+use Rattle.zk_failures.specs.Lines.{line_at}
 use Rattle.zk_cli.specs.declared.form.TheConstants.{LONGEST_TRACE}
 use Rattle.zk_cli.specs.Answer.{IsRefusal}
 use Rattle.zk_cli.specs.Refusal.{refusal_text}
