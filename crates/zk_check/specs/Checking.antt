@@ -3,10 +3,10 @@ use Rattle.zk_scenario.specs.Content.{Content}
 use Rattle.zk_trace.specs.declared.trace.Trace.{Trace}
 use Rattle.zk_check.specs.declared.verdict.Checked.{Checked}
 use Rattle.zk_check.specs.declared.verdict.Checked.TheVariants.{Lawful, Not}
-use Rattle.zk_check.specs.declared.site.Fail.{Fail}
-use Rattle.zk_check.specs.declared.site.Site.{Site}
-use Rattle.zk_check.specs.Failure.{IsFailure}
-use Rattle.zk_check.specs.Lines.{line_at}
+use Rattle.zk_failures.specs.declared.site.Fail.{Fail}
+use Rattle.zk_failures.specs.declared.site.Site.{Site}
+use Rattle.zk_failures.specs.Failure.{IsFailure}
+use Rattle.zk_failures.specs.Lines.{line_at}
 
 -- this holds of the line and the reason, where the trace isn't lawful
 abbrev pub IfNot : Checked → (ℕ → Fail → Type 0) → Type 0

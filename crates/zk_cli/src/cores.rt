@@ -1,19 +1,18 @@
 ghost use Rattle.std.specs.Prelude.{◌≡◌, ◌≢◌, ◌⊎◌, ◌≤◌, Some, None, map, IfSome, string_bytes};
 ghost use Rattle.std.specs.Io.KnownBytes.{Appends, Keeps};
 ghost use Rattle.zk_base.specs.Causes.{Rose};
-ghost use Rattle.zk_cli.specs.Input.{GaveAtMost};
-ghost use Rattle.zk_cli.specs.Output.{AppendsFront};
-ghost use Rattle.zk_cli.specs.declared.form.Form.TheVariants.{Run};
-ghost use Rattle.zk_cli.specs.Top.{cores_form_of, input_of, IsOutputOf, words_refused, Prints, PrintsFront, HasReadAll, HasInput, MayEnd, CallOutcome, most_taken};
+ghost use Rattle.zk_forms.specs.Input.{GaveAtMost};
+ghost use Rattle.zk_forms.specs.Output.{AppendsFront};
+ghost use Rattle.zk_forms.specs.declared.form.Form.TheVariants.{Run};
+ghost use Rattle.zk_forms.specs.Top.{cores_form_of, input_of, IsOutputOf, words_refused, Prints, PrintsFront, HasReadAll, HasInput, MayEnd, CallOutcome, most_taken};
 
-use crate::answer::cores_output;
-use crate::form::{Form, cores_of, limit_of};
-use crate::input::{NoInput, read_input};
-use crate::output::{refuse_words, write_made};
 use std::alloc::Global;
 use std::sync::Wait;
 use std::thread::Threads;
 use zk_base::{Gate, Sink, Source, Status};
+use zk_forms::{
+    Form, NoInput, cores_of, cores_output, limit_of, read_input, refuse_words, write_made,
+};
 
 /// The program's form `run N` over any source, any sink and any gate: it reads a scenario, plays it on N cores, from 1 to 16, and
 /// prints the scenario's text and the trace. All other words are refused.

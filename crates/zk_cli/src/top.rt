@@ -1,19 +1,17 @@
 ghost use Rattle.std.specs.Prelude.{◌≡◌, ◌≢◌, ◌⊎◌, Some, None, map, IfSome, string_bytes};
 ghost use Rattle.std.specs.Io.KnownBytes.{Appends, Keeps};
 ghost use Rattle.zk_base.specs.Causes.{Rose};
-ghost use Rattle.zk_cli.specs.Input.{GaveAtMost};
-ghost use Rattle.zk_cli.specs.Output.{AppendsFront};
-ghost use Rattle.zk_cli.specs.declared.form.Form.TheVariants.{Replay, Check};
-ghost use Rattle.zk_cli.specs.Top.{form_of, input_of, IsOutputOf, words_refused, Prints, PrintsFront, HasReadAll, HasInput, MayEnd, CallOutcome, most_taken};
+ghost use Rattle.zk_forms.specs.Input.{GaveAtMost};
+ghost use Rattle.zk_forms.specs.Output.{AppendsFront};
+ghost use Rattle.zk_forms.specs.declared.form.Form.TheVariants.{Replay, Check};
+ghost use Rattle.zk_forms.specs.Top.{form_of, input_of, IsOutputOf, words_refused, Prints, PrintsFront, HasReadAll, HasInput, MayEnd, CallOutcome, most_taken};
 
-use crate::answer::output_of;
-use crate::check::check_output;
-use crate::form::{Form, form_of, limit_of};
-use crate::input::{NoInput, read_input};
-use crate::output::{refuse_words, write_made};
-use crate::soak::soak_output;
 use std::alloc::Global;
 use zk_base::{Sink, Source, Status};
+use zk_forms::{
+    Form, NoInput, check_output, form_of, limit_of, output_of, read_input, refuse_words,
+    soak_output, write_made,
+};
 
 /// The program over any source and any sink. `replay` reads a scenario, plays it on one thread by round robin, and prints
 /// the scenario's text and the trace. `check` reads that again, and says whether the trace is lawful for the scenario, or at

@@ -8,10 +8,10 @@ use Rattle.zk_base.specs.declared.errors.Status.{Status}
 use Rattle.zk_base.specs.declared.errors.Status.TheVariants.{Success, Words, Refused, Stuck, Spent, ReadFault, WriteFault, NoMemory, Unlawful}
 use Rattle.zk_scenario.specs.Content.{Content}
 use Rattle.zk_trace.specs.declared.trace.Trace.{Trace}
-use Rattle.zk_cli.specs.declared.form.TheConstants.{LONGEST_TRACE}
-use Rattle.zk_cli.specs.Input.{HasRead}
-use Rattle.zk_cli.specs.Output.{AppendsFront}
-use Rattle.zk_cli.specs.Top.{Prints}
+use Rattle.zk_forms.specs.declared.form.TheConstants.{LONGEST_TRACE}
+use Rattle.zk_forms.specs.Input.{HasRead}
+use Rattle.zk_forms.specs.Output.{AppendsFront}
+use Rattle.zk_forms.specs.Top.{Prints}
 use Rattle.zk_view.specs.declared.view.View.{View}
 use Rattle.zk_view.specs.Shown.{IsRunOf, traced, played, IsToldWhy, too_long, no_scenario, no_trace, IsShown, IsSaid, MayCome, PrintsFront, Shows, shown, cut_short, unmade, Went, printed, cut, unread, no_memory}
 

@@ -11,8 +11,8 @@ use Rattle.zk_trace.specs.Form.{IsInForm}
 use Rattle.zk_trace.specs.Parting.{AreParts}
 use Rattle.zk_trace.specs.Text.{trace_text}
 use Rattle.zk_why.specs.Refusal.{refusal_head}
-use Rattle.zk_cli.specs.declared.form.TheConstants.{LONGEST_TRACE}
-use Rattle.zk_cli.proofs.CheckAnswers.{trace-of}
+use Rattle.zk_forms.specs.declared.form.TheConstants.{LONGEST_TRACE}
+use Rattle.zk_forms.proofs.CheckAnswers.{trace-of}
 use Rattle.zk_view.specs.declared.view.View.{View}
 use Rattle.zk_view.specs.Shown.{IsViewOf, IsView, traced, IsToldWhy, no_scenario}
 

@@ -24,10 +24,10 @@ use Rattle.zk_chart_text.specs.Chart.{chart_text}
 use Rattle.zk_chart_svg.specs.Pictures.{IsPicture}
 use Rattle.zk_why.specs.Refusal.{refusal_head}
 use Rattle.zk_why.specs.Sentences.{TellsWhy}
-use Rattle.zk_cli.specs.declared.form.TheConstants.{LONGEST_TRACE}
-use Rattle.zk_cli.specs.CheckAnswer.{IsTraceOf, trace_refused}
-use Rattle.zk_cli.specs.Output.{AppendsFront}
-use Rattle.zk_cli.specs.Top.{Prints}
+use Rattle.zk_forms.specs.declared.form.TheConstants.{LONGEST_TRACE}
+use Rattle.zk_forms.specs.CheckAnswer.{IsTraceOf, trace_refused}
+use Rattle.zk_forms.specs.Output.{AppendsFront}
+use Rattle.zk_forms.specs.Top.{Prints}
 use Rattle.zk_view.specs.declared.view.View.{View}
 use Rattle.zk_view.specs.declared.view.View.TheVariants as views
 

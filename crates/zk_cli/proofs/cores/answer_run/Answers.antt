@@ -1,7 +1,7 @@
 use Rattle.std.proofs.Common.{Some, refl}
-use Rattle.zk_cli.specs.declared.form.Form.TheVariants.{Run}
-use Rattle.zk_cli.specs.Top.{unread, no_memory}
-use Rattle.zk_cli.proofs.Outcomes.{Keeps-same, Went-answered}
+use Rattle.zk_forms.specs.declared.form.Form.TheVariants.{Run}
+use Rattle.zk_forms.specs.Top.{unread, no_memory}
+use Rattle.zk_forms.proofs.Outcomes.{Keeps-same, Went-answered}
 use Rattle.zk_cli.proofs.cores.answer_run.Goals as goal
 
 pub returns-in-Ok-clause-went : goal.returns-in-Ok-clause-went

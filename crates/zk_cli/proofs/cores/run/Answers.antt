@@ -1,7 +1,7 @@
 use Rattle.std.proofs.Common.{Option, Some, None, ap, sym, ◌∙◌}
 use Rattle.std.specs.Option.{option_map}
-use Rattle.zk_cli.specs.declared.form.Form.TheVariants.{Run}
-use Rattle.zk_cli.proofs.Outcomes.{Went-refused, Went-for, taken-for, taken-none}
+use Rattle.zk_forms.specs.declared.form.Form.TheVariants.{Run}
+use Rattle.zk_forms.proofs.Outcomes.{Went-refused, Went-for, taken-for, taken-none}
 use Rattle.zk_cli.proofs.cores.run.Goals as goal
 
 pub returns-in-None-clause-went : goal.returns-in-None-clause-went

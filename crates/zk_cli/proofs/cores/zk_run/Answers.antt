@@ -1,5 +1,5 @@
 use Rattle.zk_base.specs.declared.errors.Status.TheVariants.{Success, Stuck, Spent, Refused, Unlawful}
-use Rattle.zk_cli.proofs.Outcomes.{Went-prints, Went-words, Went-no_form, Went-complete, Went-read_fault, Went-write_fault, Went-nothing, Went-front, Went-words_front, Went-read}
+use Rattle.zk_forms.proofs.Outcomes.{Went-prints, Went-words, Went-no_form, Went-complete, Went-read_fault, Went-write_fault, Went-nothing, Went-front, Went-words_front, Went-read}
 use Rattle.zk_cli.proofs.cores.zk_run.Goals as goal
 
 pub returns-clause-success : goal.returns-clause-success

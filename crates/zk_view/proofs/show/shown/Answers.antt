@@ -4,7 +4,7 @@ use Rattle.zk_scenario.specs.declared.refused.ScenarioRefused.TheVariants.{At}
 use Rattle.zk_scenario.specs.Grammar.{scenario_of}
 use Rattle.zk_trace.specs.Parting.{AreParts}
 use Rattle.zk_why.specs.Refusal.{refusal_head}
-use Rattle.zk_cli.specs.declared.form.TheConstants.{LONGEST_TRACE}
+use Rattle.zk_forms.specs.declared.form.TheConstants.{LONGEST_TRACE}
 use Rattle.zk_view.proofs.Runs.{told-refused}
 use Rattle.zk_view.proofs.show.shown.Goals as goal
 

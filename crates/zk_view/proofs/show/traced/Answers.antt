@@ -1,8 +1,8 @@
 use Rattle.std.proofs.Common.{◌≡◌, ℕ, ◌+◌, length, arith, subst}
 use Rattle.zk_trace.specs.Feeds.{lines_in}
 use Rattle.zk_trace.specs.TraceRead.{IsRefusedAt}
-use Rattle.zk_cli.proofs.CheckAnswers.{lines-few}
-use Rattle.zk_cli.specs.CheckAnswer.{trace_refused}
+use Rattle.zk_forms.proofs.CheckAnswers.{lines-few}
+use Rattle.zk_forms.specs.CheckAnswer.{trace_refused}
 use Rattle.zk_view.specs.Shown.{no_trace}
 use Rattle.zk_view.proofs.show.traced.Goals as goal
 

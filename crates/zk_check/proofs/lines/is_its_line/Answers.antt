@@ -1,5 +1,0 @@
-use Rattle.zk_check.proofs.LineOf.{line-of}
-use Rattle.zk_check.proofs.lines.is_its_line.Goals as goal
-
-pub returns : goal.returns
-returns c = line-of c.args.scenario.now c.decls-readable.ensures.valid.named c.args.trace.now c.requires c.args.site

@@ -1,8 +1,0 @@
-use Rattle.std.proofs.Common.{◌≡◌, ℕ, ◌<◌, Some, slice_get}
-use Rattle.zk_trace.specs.declared.stood.Stood.{Stood}
-use Rattle.zk_check.specs.LooksHeld.{IsHeld}
-use Rattle.zk_check.proofs.looks.first_unheld.Given as goal
-
--- the lines so far are held
-abbrev pub invariant-loop-place : goal.invariant-loop-place
-invariant-loop-place l = (earlier : ℕ) (other : Stood) → earlier < l.place → slice_get l.rows earlier ≡ Some other → IsHeld l.signals l.orders l.missed earlier other

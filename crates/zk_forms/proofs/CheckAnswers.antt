@@ -1,0 +1,111 @@
+-- What the answers of a check come to.
+use Rattle.std.proofs.Common.{◌≡◌, ℕ, ◌+◌, ◌<◌, ◌≤◌, Ok, Err, List, ◌++◌, length, length-append, eqb, arith, refl, sym, ap, subst, ◌∙◌}
+use Rattle.std.specs.Prelude.{Result, ◌↔◌}
+use Rattle.std.proofs.lemmas.List.Sums.{count_by-le-length}
+use Rattle.zk_base.specs.declared.errors.Status.{Status}
+use Rattle.zk_base.specs.declared.errors.Status.TheVariants as statuses
+use Rattle.zk_words.specs.Bytes.{line_feed}
+use Rattle.zk_scenario.specs.Content.{Content}
+use Rattle.zk_scenario.specs.declared.limits.TheConstants.{LONGEST_SCENARIO}
+use Rattle.zk_scenario.specs.declared.refused.ScenarioRefused.{ScenarioRefused}
+use Rattle.zk_scenario.specs.declared.refused.Why.TheVariants as why
+use Rattle.zk_scenario.specs.Grammar.{scenario_of}
+use Rattle.zk_scenario.specs.Spelling.{text_of}
+use Rattle.zk_trace.specs.declared.trace.Ending.{Ending}
+use Rattle.zk_trace.specs.declared.trace.Ending.TheVariants as endings
+use Rattle.zk_trace.specs.declared.trace.Trace.{Trace}
+use Rattle.zk_trace.specs.Feeds.{lines_in}
+use Rattle.zk_trace.specs.Form.{IsInForm}
+use Rattle.zk_trace.specs.Lawful.{IsLawful}
+use Rattle.zk_trace.specs.Parting.{AreParts}
+use Rattle.zk_trace.specs.Text.{trace_text}
+use Rattle.zk_trace.specs.TraceRead.{IsRefusedAt}
+use Rattle.zk_trace.proofs.Feeds.{lines-count}
+use Rattle.zk_trace.proofs.TraceParts.{one-parting, run-parts}
+use Rattle.zk_failures.specs.declared.site.Fail.{Fail}
+use Rattle.zk_check.specs.declared.verdict.Checked.{Checked}
+use Rattle.zk_check.specs.declared.verdict.Checked.TheVariants.{Lawful, Not}
+use Rattle.zk_check.specs.Checking.{IfNot, IsNamed}
+use Rattle.zk_forms.specs.declared.form.TheConstants.{LONGEST_TRACE}
+use Rattle.zk_forms.specs.Answer.{IsRefusal, status_of}
+use Rattle.zk_forms.specs.CheckAnswer.{IsTraceOf, IsTraceRefusal, too_long, no_scenario, no_trace, trace_refused, unlawful_text, IsCheckOutput, Says}
+use Rattle.zk_forms.specs.Refusal.{refusal_text}
+use Rattle.zk_forms.specs.SoakAnswer.{IsSoak, IsSoakOutput}
+
+same-scenario : {s t : Content} {said : Result Content ScenarioRefused} → said ≡ Ok s → said ≡ Ok t → s ≡ t
+same-scenario one other = let both = sym one ∙ other in cc
+
+-- what was read of the two parts is of the whole
+pub trace-of : (s : Content) (t : Trace) (front trace : List ℕ) → scenario_of front ≡ Ok s → front ≡ text_of s → trace ≡ trace_text s t → IsInForm s t →
+    length (front ++ trace) ≤ LONGEST_TRACE → IsTraceOf (front ++ trace) s t
+trace-of s t front trace read spelled same form short = record {
+  scenario = subst (λ (f : List ℕ). scenario_of f ≡ Ok s) spelled read;
+  form = form;
+  text = ap (λ f. f ++ trace) spelled ∙ ap (λ l. text_of s ++ l) same;
+  short = short;
+}
+
+-- what is said of a check is its output
+pub said-output : (input : List ℕ) (s : Content) (t : Trace) → IsTraceOf input s t → (checked : Checked) → ((checked ≡ Lawful) ↔ IsLawful s t) → IfNot checked (IsNamed s t) →
+    (status : Status) (output : List ℕ) → Says checked status output → IsCheckOutput status input output
+said-output input s t given Lawful exact named status output says =
+    subst (λ (x : Status). IsCheckOutput x input output) (sym says.0) (record { s = s; t = t; given = given; lawful = exact.0 refl; printed = says.1 })
+said-output input s t given (Not line fail) exact named status output says =
+    subst (λ (x : Status). IsCheckOutput x input output) (sym says.0) (record {
+      s = s;
+      t = t;
+      given = given;
+      unlawful = λ lawful. let isnt = exact.1 lawful in absurd (cc);
+      fail = fail;
+      site = named.site;
+      failure = named.failure;
+      printed = says.1 ∙ ap (λ (n : ℕ). unlawful_text n fail) named.at;
+    })
+
+-- a whole whose parts are known is of no other scenario and trace
+one-run : (front trace : List ℕ) → AreParts (front ++ trace) front trace → (s : Content) (t : Trace) → IsTraceOf (front ++ trace) s t → (front ≡ text_of s) × (trace ≡ trace_text s t)
+one-run front trace parts s t given =
+    one-parting (front ++ trace) front trace (text_of s) (trace_text s t) parts
+    (subst (λ (x : List ℕ). AreParts x (text_of s) (trace_text s t)) (sym given.text) (run-parts s t given.scenario))
+
+-- a trace part that was refused
+pub trace-refused : (front trace output : List ℕ) (s : Content) (line : ℕ) → scenario_of front ≡ Ok s → AreParts (front ++ trace) front trace →
+    length (front ++ trace) ≤ LONGEST_TRACE → ((t : Trace) → IsInForm s t → trace ≡ trace_text s t → ⊥) →
+    IsRefusedAt s trace (1 + length (lines_in front)) line → output ≡ trace_refused line → IsTraceRefusal (front ++ trace) output
+trace-refused front trace output s line read parts short none refused says = record {
+  never = λ other t given.
+      let same = one-run front trace parts other t given in
+      let one : s ≡ other = same-scenario read (ap scenario_of same.0 ∙ given.scenario) in
+      none t (subst (λ (x : Content). IsInForm x t) (sym one) given.form) (same.1 ∙ ap (λ (x : Content). trace_text x t) (sym one));
+  why_so = no_trace front trace s line short parts read refused says;
+}
+
+-- a scenario's text that was refused
+pub scenario-refused : (front trace output : List ℕ) (e : ScenarioRefused) → scenario_of front ≡ Err e → AreParts (front ++ trace) front trace →
+    length (front ++ trace) ≤ LONGEST_TRACE → IsRefusal (scenario_of front) output → IsTraceRefusal (front ++ trace) output
+scenario-refused front trace output e read parts short says = record {
+  never = λ s t given.
+      let same = one-run front trace parts s t given in
+      let good = ap scenario_of same.0 ∙ given.scenario in
+      let both = sym read ∙ good in
+      absurd (cc);
+  why_so = no_scenario front trace short parts says;
+}
+
+-- an input above the limit
+pub length-refused : (input output : List ℕ) → LONGEST_TRACE < length input → output ≡ refusal_text 0 why.Length → IsTraceRefusal input output
+length-refused input output long says = record {
+  never = λ s t given. absurd (omega (arith, long, given.short));
+  why_so = too_long long says;
+}
+
+-- how many lines a part of an input has
+pub lines-few : (front trace : List ℕ) → length (front ++ trace) ≤ LONGEST_TRACE → length (lines_in front) ≤ LONGEST_TRACE
+lines-few front trace short =
+    omega (arith, lines-count front, count_by-le-length (λ b. eqb b line_feed) front, length-append front trace, short)
+
+-- a soak is the answer of the status that its ending has
+pub soak-output : (ending : Ending) (number : ℕ) (output : List ℕ) → IsSoak ending number output → IsSoakOutput number (status_of ending) output
+soak-output endings.Ended number output soak = soak
+soak-output endings.Stuck number output soak = soak
+soak-output endings.Spent number output soak = soak

@@ -1,0 +1,16 @@
+pub mod Answer
+pub mod Attempts
+pub mod CallsMade
+pub mod CheckAnswer
+pub mod Input
+pub mod Moments
+pub mod Output
+pub mod Plays
+pub mod Polls
+pub mod Publishes
+pub mod UserChecks
+pub mod Refusal
+pub mod Scripts
+pub mod SoakAnswer
+pub mod Told
+pub mod Top

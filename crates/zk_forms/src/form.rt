@@ -1,0 +1,79 @@
+ghost use Rattle.std.specs.Prelude.{◌≡◌, map, option_map, string_bytes};
+ghost use Rattle.zk_words.specs.Numbers.{number_in};
+ghost use Rattle.zk_forms.specs.declared.form.Form.TheVariants.{Soak, Run};
+ghost use Rattle.zk_forms.specs.Top.{form_of, cores_form_of, needs_cores, limit_of};
+
+use zk_cores::MOST_CORES;
+use zk_scenario::LONGEST_SCENARIO;
+use zk_words::number_in;
+
+/// What the program is asked to do.
+#[derive(Clone, Copy, PartialEq, Eq)]
+pub enum Form {
+    /// `replay`: reads a scenario, plays it on one thread by round robin, and prints its text and the trace.
+    Replay,
+    /// `check`: reads what `replay` prints, and says whether the trace is lawful for its scenario.
+    Check,
+    /// `soak N`: plays the generated scenario of this number, checks the trace, and prints one line. It reads nothing.
+    Soak(u32),
+    /// `run N`: reads a scenario, plays it on that many cores, from 1 to 16, and prints its text and the trace.
+    Run(u32),
+}
+
+/// The greatest number of a generated scenario.
+pub const MOST_SOAK: u32 = 999_999;
+
+/// The form on one thread that these words ask for, if they are those of one.
+pub fn form_of(words: &[String]) -> Option<Form>
+    ensures { result ≡ form_of (map string_bytes words.now) }
+{
+    match words {
+        [word] if word.as_bytes() == b"replay".as_slice() => Some(Form::Replay),
+        [word] if word.as_bytes() == b"check".as_slice() => Some(Form::Check),
+        [word, number] if word.as_bytes() == b"soak".as_slice() => soak_of(number.as_bytes()),
+        _ => None,
+    }
+}
+
+fn soak_of(number: &[u8]) -> Option<Form>
+    ensures { result ≡ option_map Soak (number_in 0 MOST_SOAK number.now) }
+{
+    Some(Form::Soak(number_in(0, MOST_SOAK, number)?))
+}
+
+/// How many cores these words ask for, if they are those of `run`.
+pub fn cores_of(words: &[String]) -> Option<u32>
+    ensures { option_map Run result ≡ cores_form_of (map string_bytes words.now) }
+{
+    match words {
+        [word, number] if word.as_bytes() == b"run".as_slice() => {
+            number_in(1, MOST_CORES, number.as_bytes())
+        }
+        _ => None,
+    }
+}
+
+/// Whether these words are for `zk_run`, which needs cores: where the first is `run`. All others are for `zk_plain`.
+pub fn needs_cores(words: &[String]) -> bool
+    ensures { result ≡ needs_cores (map string_bytes words.now) }
+{
+    match words {
+        [word, ..] => word.as_bytes() == b"run".as_slice(),
+        _ => false,
+    }
+}
+
+/// The longest input of `check`, in bytes.
+pub const LONGEST_TRACE: usize = 536_870_912;
+
+/// The longest input of a form, in bytes. `soak` reads none.
+pub fn limit_of(form: Form) -> usize
+    ensures { result ≡ limit_of form }
+{
+    match form {
+        Form::Replay => LONGEST_SCENARIO,
+        Form::Check => LONGEST_TRACE,
+        Form::Soak(_) => 0,
+        Form::Run(_) => LONGEST_SCENARIO,
+    }
+}

@@ -1,0 +1,17 @@
+//! What the program can be asked to do: the form that its words ask for, how the input of one is read, the whole output of each,
+//! and how that is written.
+#![tactic(auto)]
+
+mod answer;
+mod check;
+mod form;
+mod input;
+mod output;
+mod soak;
+
+pub use answer::{cores_output, output_of};
+pub use check::{check_output, trace_refusal};
+pub use form::{Form, LONGEST_TRACE, cores_of, form_of, limit_of, needs_cores};
+pub use input::{NoInput, read_input};
+pub use output::{refuse_words, write_made, write_text};
+pub use soak::soak_output;
