@@ -13,7 +13,7 @@ use Rattle.zk_forms.specs.Input.{HasRead}
 use Rattle.zk_forms.specs.Output.{AppendsFront}
 use Rattle.zk_forms.specs.Top.{Prints}
 use Rattle.zk_view.specs.declared.view.View.{View}
-use Rattle.zk_view.specs.Shown.{IsRunOf, traced, played, IsToldWhy, too_long, no_scenario, no_trace, IsShown, IsSaid, MayCome, PrintsFront, Shows, shown, cut_short, unmade, Went, printed, cut, unread, no_memory}
+use Rattle.zk_view.specs.Shown.{IsRunOf, traced, played, IsToldWhy, too_long, no_scenario, no_trace, HasNoRun, IsShown, IsSaid, MayCome, PrintsFront, Shows, shown, cut_short, unmade, Went, printed, cut, unread, no_memory}
 
 -- what was not written to stays
 pub keeps-same : (held : Option (List ℕ)) → Keeps held held
@@ -33,7 +33,7 @@ said view NoMemory input output is = absurd is
 said view Unlawful input output is = absurd is
 
 -- an input above the limit has no run
-never-long : (front : List ℕ) (s : Content) (t : Trace) → LONGEST_TRACE < length front → IsRunOf front s t → ⊥
+pub never-long : (front : List ℕ) (s : Content) (t : Trace) → LONGEST_TRACE < length front → IsRunOf front s t → ⊥
 never-long front s t long (traced given) = absurd (omega (arith, long, given.short))
 never-long front s t long (played short read run) = absurd (omega (arith, long, short))
 
@@ -45,7 +45,10 @@ told-long front input output long more (no_trace f t s line within parts behind 
 shown-long : (view : View) (status : Status) (front input output : List ℕ) → LONGEST_TRACE < length front → LONGEST_TRACE < length input → IsShown view status front output →
     IsShown view status input output
 shown-long view Success front input output long more is = absurd (never-long front is.s is.t long is.run)
-shown-long view Refused front input output long more is = told-long front input output long more is
+shown-long view Refused front input output long more is = record {
+  never = λ s t run. never-long input s t more run;
+  why_so = told-long front input output long more is.why_so;
+}
 shown-long view Words front input output long more is = absurd is
 shown-long view Stuck front input output long more is = absurd is
 shown-long view Spent front input output long more is = absurd is

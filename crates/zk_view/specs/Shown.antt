@@ -69,10 +69,15 @@ pub data IsToldWhy (input output : List ℕ) : Type 0 where
       scenario_of front ≡ Ok s → IsRefusedAt s trace (1 + length (lines_in front)) line → output ≡ trace_refused line →
       IsToldWhy input output
 
+-- an input has no run, and is told why
+pub record HasNoRun (input output : List ℕ) : Type 0 where
+  pub never : (s : Content) (t : Trace) → IsRunOf input s t → ⊥
+  pub why_so : IsToldWhy input output
+
 -- the whole output that goes with a status, for an input
 abbrev pub IsShown : View → Status → List ℕ → List ℕ → Type 0
 IsShown view statuses.Success input output = IsView view input output
-IsShown view statuses.Refused input output = IsToldWhy input output
+IsShown view statuses.Refused input output = HasNoRun input output
 IsShown view status input output = ⊥
 
 -- the statuses that come with a whole output for an input

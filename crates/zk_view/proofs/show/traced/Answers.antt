@@ -3,7 +3,7 @@ use Rattle.zk_trace.specs.Feeds.{lines_in}
 use Rattle.zk_trace.specs.TraceRead.{IsRefusedAt}
 use Rattle.zk_forms.proofs.CheckAnswers.{lines-few}
 use Rattle.zk_forms.specs.CheckAnswer.{trace_refused}
-use Rattle.zk_view.specs.Shown.{no_trace}
+use Rattle.zk_view.proofs.Runs.{told-trace}
 use Rattle.zk_view.proofs.show.traced.Goals as goal
 
 pub overflow_cast-first_line : goal.overflow_cast-first_line
@@ -26,5 +26,6 @@ returns-in_ok-trace_refusal-in-Err-At c =
     let first : c.line_count.result + 1 ≡ 1 + length (lines_in front) = omega (arith, c.line_count.ensures) in
     let at : IsRefusedAt s trace (c.line_count.result + 1) line = rw c.in-Err-At.field-0-is at c.in-Err-At.ensures.at in
     let says : told ≡ trace_refused line = rw c.in-Err-At.field-0-is at c.in_ok-trace_refusal-in-Err-At.ensures in
-    no_trace front trace s line c.requires.short c.requires.parts c.requires.behind c.requires.read
+    let none = rw c.in-Err-At.field-0-is at c.in-Err-At.ensures.only in
+    told-trace front trace told s line c.requires.read c.requires.parts c.requires.short c.requires.behind none
     (subst (λ (n : ℕ). IsRefusedAt s trace n line) first at) says
