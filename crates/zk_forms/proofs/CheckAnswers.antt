@@ -22,6 +22,8 @@ use Rattle.zk_trace.specs.Text.{trace_text}
 use Rattle.zk_trace.specs.TraceRead.{IsRefusedAt}
 use Rattle.zk_trace.proofs.Feeds.{lines-count}
 use Rattle.zk_trace.proofs.TraceParts.{one-parting, run-parts}
+use Rattle.zk_trace.proofs.TraceRead.{one_trace}
+use Rattle.zk_scenario.proofs.ReadIsValid.{IsValid-read}
 use Rattle.zk_failures.specs.declared.site.Fail.{Fail}
 use Rattle.zk_check.specs.declared.verdict.Checked.{Checked}
 use Rattle.zk_check.specs.declared.verdict.Checked.TheVariants.{Lawful, Not}
@@ -67,6 +69,18 @@ one-run : (front trace : List ℕ) → AreParts (front ++ trace) front trace →
 one-run front trace parts s t given =
     one-parting (front ++ trace) front trace (text_of s) (trace_text s t) parts
     (subst (λ (x : List ℕ). AreParts x (text_of s) (trace_text s t)) (sym given.text) (run-parts s t given.scenario))
+
+-- an input is of one scenario and one trace
+pub one-meaning : (input : List ℕ) (s other : Content) (t another : Trace) → IsTraceOf input s t → IsTraceOf input other another →
+    (s ≡ other) × (t ≡ another)
+one-meaning input s other t another one two =
+    let parts = run-parts s t one.scenario in
+    let same = one-run (text_of s) (trace_text s t) parts other another
+    (subst (λ (i : List ℕ). IsTraceOf i other another) one.text two) in
+    let which : s ≡ other = same-scenario one.scenario (ap scenario_of same.0 ∙ two.scenario) in
+    let form : IsInForm s another = subst (λ (x : Content). IsInForm x another) (sym which) two.form in
+    let text : trace_text s t ≡ trace_text s another = same.1 ∙ ap (λ (x : Content). trace_text x another) (sym which) in
+    (which, one_trace s (IsValid-read (text_of s) s one.scenario).named t another one.form form text)
 
 -- a trace part that was refused
 pub trace-refused : (front trace output : List ℕ) (s : Content) (line : ℕ) → scenario_of front ≡ Ok s → AreParts (front ++ trace) front trace →

@@ -20,6 +20,7 @@ use Rattle.zk_trace.specs.declared.trace.Trace.{Trace}
 use Rattle.zk_trace.specs.declared.trace.Ending.{Ending}
 use Rattle.zk_trace.specs.declared.trace.Ending.TheVariants as endings
 use Rattle.zk_trace.specs.Text.{trace_text}
+use Rattle.zk_trace.specs.Form.{IsInForm}
 use Rattle.zk_trace.specs.Lawful.{IsLawful}
 use Rattle.zk_world.specs.Over.{IsOver}
 use Rattle.zk_forms.specs.Attempts.{EachAttemptsItsCalls}
@@ -33,7 +34,7 @@ use Rattle.zk_forms.specs.Refusal.{refusal_text}
 use Rattle.zk_forms.specs.Scripts.{EachEntersItsScripts}
 use Rattle.zk_forms.specs.Told.{EachTellsItsPlayer}
 
--- the input is the text of a scenario, and the output is that text and a trace of it. The trace is lawful for the scenario, its
+-- the input is the text of a scenario, and the output is that text and a trace of it, in form. The trace is lawful for the scenario, its
 -- histories keep the laws at each moment, its polls keep theirs, each script is entered that was to be, each publish and notify
 -- has visited its observers or was refused, each user's call was checked before all else, each other call made the steps of its
 -- form, each player has played its script call by call, with what that opened, and attempted what came next at each moment, each
@@ -41,6 +42,7 @@ use Rattle.zk_forms.specs.Told.{EachTellsItsPlayer}
 pub record IsPrinted (s : Content) (t : Trace) (input output : List ℕ) : Type 0 where
   pub read : scenario_of input ≡ Ok s
   pub spelled : input ≡ text_of s
+  pub form : IsInForm s t
   pub lawful : IsLawful s t
   pub laws : AtEachMoment (KeepsLaws (work_start_of s)) t.work
   pub clock_laws : AtEachMoment KeepsClockLaws t.clock

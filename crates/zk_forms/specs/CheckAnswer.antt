@@ -30,6 +30,11 @@ pub record IsTraceOf (input : List ℕ) (s : Content) (t : Trace) : Type 0 where
   pub text : input ≡ text_of s ++ trace_text s t
   pub short : length input ≤ LONGEST_TRACE
 
+-- an input is the text of one scenario and of one trace in form at the most
+abbrev pub HasOneMeaning : List ℕ → Type 0
+HasOneMeaning input = (s other : Content) (t another : Trace) → IsTraceOf input s t → IsTraceOf input other another →
+    (s ≡ other) × (t ≡ another)
+
 -- what is printed where the trace is lawful
 abbrev pub lawful_text : List ℕ
 lawful_text = codes "lawful\n"

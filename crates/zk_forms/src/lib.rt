@@ -6,6 +6,7 @@ mod answer;
 mod check;
 mod form;
 mod input;
+mod meaning;
 mod output;
 mod soak;
 
@@ -13,5 +14,6 @@ pub use answer::{cores_output, output_of};
 pub use check::{check_output, trace_refusal};
 pub use form::{Form, LONGEST_TRACE, cores_of, form_of, limit_of, needs_cores};
 pub use input::{NoInput, read_input};
+pub use meaning::has_one_meaning;
 pub use output::{refuse_words, write_made, write_text};
 pub use soak::soak_output;

@@ -40,6 +40,7 @@ returns-clause-prints c =
     record {
       read = c.requires.read;
       spelled = c.requires.spelled;
+      form = c.requires.form;
       lawful = lawful;
       laws = λ front rest parts. c.keeps_laws.ensures start front (record {
         work = record { fresh = refl; legal = IsLegal-front work_machine start front rest (subst (IsLegal work_machine start) parts legal.work) };
