@@ -65,7 +65,7 @@ end_of_try() {
 play_unproved() {
   local last status
   command -v rt >/dev/null || fail "it isn't built yet, and to play or build it the kit's command rt has to be on the PATH"
-  say "not proved: nothing is built yet, so this call is played without proofs (rt try), in some two minutes"
+  say "not proved: the program isn't built yet, so this call is played without proofs (rt try), in some two minutes"
   say "each call takes as long, until ./build has proved and built the program"
   room=$(mktemp -d) || fail 'no temporary folder can be made'
   trap end_of_try EXIT
