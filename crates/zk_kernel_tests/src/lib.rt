@@ -1,4 +1,4 @@
-//! Tests alone: of the shared kernel as its callers use it, on one thread and on many.
+//! Tests alone: of the shared kernel as its callers use it, on one thread and on many. The longer ones are laid over by `bench/crate`.
 #![tactic(auto)]
 
 #[cfg(test)]
@@ -12,14 +12,10 @@ mod parts;
 #[cfg(test)]
 mod played;
 #[cfg(test)]
-mod quick_tests;
-#[cfg(test)]
-mod round_tests;
-#[cfg(test)]
 mod rounds;
 #[cfg(test)]
 mod scenarios;
 #[cfg(test)]
-mod texts;
+mod step_tests;
 #[cfg(test)]
-mod thread_tests;
+mod texts;

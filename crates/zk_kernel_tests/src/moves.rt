@@ -22,6 +22,8 @@ pub enum Move {
     Attempt(usize, u32),
     /// The attempt of this index of this caller, without a turn, if it takes none.
     Quick(usize, u32),
+    /// Whether this caller has news.
+    News(usize),
     /// So many rounds, each of one step of each caller where it can make one.
     Rounds(u32),
     /// Each caller in a thread of its own, as far as it gets: by whole calls, or by steps.
@@ -91,6 +93,10 @@ pub fn make_move<R: Threads + Wait + Sync>(
         Move::Quick(number, index) => match quick_one(kernel, callers, number, index) {
             Some(_) => b'y',
             None => b'n',
+        },
+        Move::News(number) => match callers.get(number) {
+            Some(caller) if caller.has_news(kernel) => b'y',
+            _ => b'n',
         },
         Move::Rounds(rounds) => match play_rounds(rt, kernel, callers, rounds) {
             Ok(()) => b'y',

@@ -22,7 +22,8 @@ const MOST_ROUNDS: u32 = 10_000;
 pub struct Report {
     /// A letter for each move: `y` it was made whole, `n` it wasn't possible, `s` a caller was spent, `m` memory was wanted.
     pub moves: Vec<u8>,
-    /// A letter for each caller after all moves: `t` it lives and has no call to begin, `o` it is over, `w` it begins a call next.
+    /// A letter for each caller after all moves: `t` it lives and has no call to begin, `o` it is over, `w` it begins a call next, `?`
+    /// the kernel's scenario has another player in its place.
     pub stand: Vec<u8>,
     /// How many steps each caller had made then.
     pub steps: Vec<u32>,
@@ -50,7 +51,10 @@ fn kernel_of(alloc: Global, scenario: &Scenario) -> Result<(Kernel, Vec<Caller>)
 }
 
 fn letter_of(kernel: &Kernel, caller: &Caller) -> u8 {
-    if !caller.lives() {
+    let who = caller.who();
+    if kernel.scenario().who(who.number) != Some(who) {
+        b'?'
+    } else if !caller.lives() {
         b'o'
     } else if caller.next_call(kernel).is_none() {
         b't'

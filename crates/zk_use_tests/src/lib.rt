@@ -1,5 +1,5 @@
 //! Tests alone: of services in cells, of signals and of pools, by the callers of `zk_uses` on one thread and on many. They stand
-//! here, since a crate that has tests is proved once more with them.
+//! here, since a crate that has tests is proved once more with them; more of them are laid over by `bench/crate`.
 #![tactic(auto)]
 
 #[cfg(test)]

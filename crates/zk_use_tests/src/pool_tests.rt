@@ -3,7 +3,6 @@ ghost use Rattle.zk_pool.specs.Hands.{IsNewHand, pool_hands, pool_items, room_si
 ghost use Rattle.zk_uses.specs.Juggling.{ball_color, ball_number, IsFree};
 
 use std::alloc::Global;
-use std::mem::size_of;
 use std::sync::Wait;
 use std::test::Fail;
 use std::thread::Threads;
@@ -12,10 +11,10 @@ use zk_pool::{Hand, Keeper, Pool, Room};
 use zk_uses::{Ball, balls, juggled_by_four};
 
 /// Two hands of one pool.
-type TwoHands = (Hand<Ball>, Hand<Ball>);
+pub type TwoHands = (Hand<Ball>, Hand<Ball>);
 
 /// The two hands of a new pool.
-fn two_hands(pool: &Pool<Ball>, mut hands: Vec<Hand<Ball>>) -> TwoHands
+pub fn two_hands(pool: &Pool<Ball>, mut hands: Vec<Hand<Ball>>) -> TwoHands
     requires new { All (IsNewHand ball_number ball_color pool.now) hands.items }
     requires two { length hands.items ≡ 2 }
     ensures first { IsFree ball_number ball_color pool.now result.0 }
@@ -31,7 +30,7 @@ fn two_hands(pool: &Pool<Ball>, mut hands: Vec<Hand<Ball>>) -> TwoHands
 }
 
 /// The balls of a pool of two hands.
-fn closed_by_two<R: Wait>(
+pub fn closed_by_two<R: Wait>(
     rt: &R,
     alloc: Global,
     pool: Pool<Ball>,
@@ -85,7 +84,7 @@ fn closed_by_four<R: Wait>(
 }
 
 /// The balls when four threads have juggled them, each so many times, and how often a thread caught one.
-fn juggled<R: Threads + Wait + Sync>(
+pub fn juggled<R: Threads + Wait + Sync>(
     rt: &R,
     alloc: Global,
     count: u32,
@@ -101,7 +100,7 @@ fn juggled<R: Threads + Wait + Sync>(
 }
 
 /// How often these balls were caught.
-fn caught_in(balls: &[Ball]) -> u64 {
+pub fn caught_in(balls: &[Ball]) -> u64 {
     let mut caught = 0u64;
     for ball in balls {
         caught = caught.saturating_add(u64::from(ball.caught));
@@ -110,7 +109,7 @@ fn caught_in(balls: &[Ball]) -> u64 {
 }
 
 /// Whether these are all the balls, each once.
-fn are_all(balls: &[Ball], count: u32) -> bool {
+pub fn are_all(balls: &[Ball], count: u32) -> bool {
     let mut each = true;
     for number in 0..count {
         let mut found = 0u64;
@@ -162,40 +161,6 @@ fn four_threads_juggle(rt: HostRuntime) -> Result<(), Fail> {
         caught_in(&back) == caught,
         "a ball is in one hand at a time"
     );
-    Ok(())
-}
-
-#[test]
-fn more_threads_than_balls(rt: HostRuntime) -> Result<(), Fail> {
-    let (back, caught) = juggled(&rt, rt.alloc(), 1, 10_000)?;
-    assert!(rt; are_all(&back, 1), "the one ball comes back");
-    assert!(rt; caught_in(&back) == caught, "it is in one hand at a time");
-    Ok(())
-}
-
-#[test]
-fn a_hand_that_finds_nothing(rt: HostRuntime) -> Result<(), Fail> {
-    let (pool, hands, room) = Pool::new(rt.alloc(), balls(rt.alloc(), 1)?, 2)?;
-    let (mut first, mut second) = two_hands(&pool, hands);
-    let Some(ball) = pool.take(&rt, &mut first) else {
-        panic!(rt; "the ball is in the pool");
-    };
-    assert!(rt;
-        pool.take(&rt, &mut first).is_none(),
-        "the ball is in this hand"
-    );
-    assert!(rt;
-        pool.take(&rt, &mut second).is_none(),
-        "the ball is in the other hand"
-    );
-    pool.give(&rt, &mut first, ball);
-    let Some(ball) = pool.take(&rt, &mut second) else {
-        panic!(rt; "the ball is in the pool again");
-    };
-    pool.give(&rt, &mut second, ball);
-    let back = closed_by_two(&rt, rt.alloc(), pool, (first, second), room)?;
-    assert!(rt; are_all(&back, 1));
-    assert!(rt; (size_of::<Hand<Ball>>()) == 0, "a hand has no bytes");
     Ok(())
 }
 

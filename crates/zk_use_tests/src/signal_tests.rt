@@ -2,7 +2,6 @@ ghost use Rattle.std.specs.Prelude.{◌≡◌, ◌≤◌, [], ◌∷◌, IfOk, v
 ghost use Rattle.zk_signal.specs.Passes.{AreNewPasses, IsNewPass};
 
 use std::alloc::Global;
-use std::mem::size_of;
 use std::test::Fail;
 use zk_base::{NoMemory, Seen};
 use zk_signal::{SharedSignal, SigPass};
@@ -89,7 +88,9 @@ fn a_look_shows_what_another_wrote(rt: HostRuntime) -> Result<(), Fail> {
                 stamp: 0
             }
     );
+    assert!(rt; !signal.is_raised());
     assert!(rt; signal.raise(&mut first, 7) == 1);
+    assert!(rt; signal.is_raised());
     assert!(rt;
         signal.look(&mut second)
             == Seen {
@@ -123,17 +124,5 @@ fn a_look_shows_what_another_wrote(rt: HostRuntime) -> Result<(), Fail> {
     );
     signal.join(&mut first, second);
     assert!(rt; signal.close(first) == 4);
-    Ok(())
-}
-
-#[test]
-fn as_many_players_as_there_may_be(rt: HostRuntime) -> Result<(), Fail> {
-    let players = [9; 256];
-    let (_signal, passes) = SharedSignal::new(rt.alloc(), &players)?;
-    assert!(rt; passes.len() == 256);
-    for pass in &passes {
-        assert!(rt; pass.room() == 20_000);
-    }
-    assert!(rt; size_of::<SigPass>() == 4, "a pass has 4 bytes");
     Ok(())
 }

@@ -9,20 +9,20 @@ use zk_time::Clock;
 use zk_turn::{Cell, Look};
 use zk_uses::{
     Caller, Looker, closed_after_looks, four_callers, looked_at_meanwhile, submitted_by_four,
-    submitted_by_two, ticked_by_two, two_callers,
+    ticked_by_two, two_callers,
 };
 use zk_work::Work;
 
-const FIRST: Who = Who { number: 0, prio: 0 };
+pub const FIRST: Who = Who { number: 0, prio: 0 };
 
-const SECOND: Who = Who { number: 1, prio: 0 };
+pub const SECOND: Who = Who { number: 1, prio: 0 };
 
 const THIRD: Who = Who { number: 2, prio: 0 };
 
 const FOURTH: Who = Who { number: 3, prio: 0 };
 
 /// How often each thread calls.
-const TIMES: u32 = 1000;
+pub const TIMES: u32 = 1000;
 
 /// How often each thread looks, and how often each other one calls meanwhile.
 const LOOKS: u32 = 20_000;
@@ -33,7 +33,7 @@ const CALLS: u32 = 500;
 const ROUNDS: u32 = 100;
 
 /// Whether the steps of the player's entries are 0, 1, 2 and on, and so many.
-fn are_in_order<O, R>(history: &[Entry<O, R>], who: Who, times: u32) -> bool {
+pub fn are_in_order<O, R>(history: &[Entry<O, R>], who: Who, times: u32) -> bool {
     let mut next = 0u64;
     for entry in history {
         if entry.who.number == who.number {
@@ -44,20 +44,6 @@ fn are_in_order<O, R>(history: &[Entry<O, R>], who: Who, times: u32) -> bool {
         }
     }
     next == u64::from(times)
-}
-
-#[test]
-fn two_threads_submit(rt: HostRuntime) -> Result<(), Fail> {
-    let work = Work::new(rt.alloc(), 1, &[9], &[true])?;
-    let (cell, passes) = Cell::new(rt.alloc(), work, &[FIRST, SECOND])?;
-    let (first, second) = two_callers(&cell, FIRST, SECOND, passes);
-    let pass = submitted_by_two(&rt, &cell, first, second, TIMES);
-    let history = cell.close(pass).into_history();
-    assert!(rt; history.len() == 2000);
-    for who in [FIRST, SECOND] {
-        assert!(rt; are_in_order(&history, who, TIMES));
-    }
-    Ok(())
 }
 
 #[test]
