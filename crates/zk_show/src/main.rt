@@ -4,7 +4,7 @@
 use std::process::ExitCode;
 use std::{env, io};
 use zk_base::{StdSink, StdSource};
-use zk_view::zk_show;
+use zk_show_view::zk_show;
 
 /// The exit status where the program can't get its words. No top call answers it.
 const NO_WORDS: u8 = 9;

@@ -1,4 +1,4 @@
-//! What threads share, used as a caller would use it: services in cells, signals and pools. Each caller is proved; `zk_use_tests`
+//! What threads share, used as a caller would use it: services in cells, signals and pools. Each caller is proved; `zk_test_uses`
 //! runs them.
 #![tactic(auto)]
 

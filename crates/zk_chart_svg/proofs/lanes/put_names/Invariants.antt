@@ -1,9 +1,0 @@
-use Rattle.std.proofs.Common.{◌≡◌}
-use Rattle.zk_base.specs.Fronts.{StaysInFront}
-use Rattle.zk_chart_svg.proofs.lanes.put_names.Given as goal
-
-abbrev pub invariant-loop-band : goal.invariant-loop-band
-invariant-loop-band l = record {
-  more : StaysInFront l.initial.out.put l.out.put;
-  front : l.out.front ≡ l.initial.out.front;
-}

@@ -1,0 +1,84 @@
+-- What is shown of an input, from what was read of its parts.
+use Rattle.std.proofs.Common.{◌≡◌, ℕ, ◌+◌, ◌<◌, ◌≤◌, Ok, Err, List, [], ◌++◌, length, refl, sym, ap, subst, ◌∙◌, inl, arith}
+use Rattle.std.proofs.lemmas.List.{append-nil}
+use Rattle.zk_base.specs.Fronts.{StaysInFront}
+use Rattle.zk_scenario.specs.Content.{Content}
+use Rattle.zk_scenario.specs.Grammar.{scenario_of}
+use Rattle.zk_scenario.specs.Spelling.{text_of}
+use Rattle.zk_scenario.specs.declared.refused.ScenarioRefused.TheVariants.{At}
+use Rattle.zk_scenario.specs.declared.refused.Why.{Why}
+use Rattle.zk_scenario.specs.declared.refused.Why.TheVariants as reasons
+use Rattle.zk_scenario.proofs.ReadText.{text_of-read}
+use Rattle.zk_trace.specs.declared.trace.Trace.{Trace}
+use Rattle.zk_trace.specs.Form.{IsInForm}
+use Rattle.zk_trace.specs.Parting.{AreParts}
+use Rattle.zk_trace.specs.Feeds.{lines_in}
+use Rattle.zk_trace.specs.Text.{trace_text}
+use Rattle.zk_trace.specs.TraceRead.{IsRefusedAt}
+use Rattle.zk_trace.proofs.TraceParts.{one-parting, run-parts}
+use Rattle.zk_show_why.specs.Refusal.{refusal_head}
+use Rattle.zk_forms.specs.declared.form.TheConstants.{LONGEST_TRACE}
+use Rattle.zk_forms.specs.CheckAnswer.{trace_refused}
+use Rattle.zk_forms.proofs.CheckAnswers.{trace-of, trace-refused}
+use Rattle.zk_show_view.specs.declared.view.View.{View}
+use Rattle.zk_show_view.specs.Shown.{IsRunOf, traced, played, IsViewOf, IsView, too_long, no_scenario, no_trace, HasNoRun}
+use Rattle.zk_show_view.proofs.Outcomes.{never-long}
+
+-- a view of a trace that was read of the two parts
+pub traced-view : (view : View) (s : Content) (t : Trace) (front trace output : List ℕ) → scenario_of front ≡ Ok s → front ≡ text_of s → trace ≡ trace_text s t → IsInForm s t →
+    length (front ++ trace) ≤ LONGEST_TRACE → IsViewOf view s t output → IsView view (front ++ trace) output
+traced-view view s t front trace output read spelled same form short shows = record {
+  s = s;
+  t = t;
+  run = traced (trace-of s t front trace read spelled same form short);
+  shows = shows;
+}
+
+-- the parts of an input that has a run: the scenario's text, and a trace or nothing behind it
+parts-of : (input : List ℕ) (s : Content) (t : Trace) → IsRunOf input s t →
+    (trace : List ℕ) × AreParts input (text_of s) trace × (scenario_of (text_of s) ≡ Ok s)
+parts-of input s t (traced given) = (
+  trace_text s t,
+  subst (λ (x : List ℕ). AreParts x (text_of s) (trace_text s t)) (sym given.text) (run-parts s t given.scenario),
+  given.scenario,
+)
+parts-of input s t (played short read run) =
+    let is : input ≡ text_of s = text_of-read input s read in
+    let good : scenario_of (text_of s) ≡ Ok s = ap scenario_of (sym is) ∙ read in
+    ([], record { whole = is ∙ sym (append-nil (text_of s)); before = (run-parts s t good).before; begins = inl refl }, good)
+
+-- what is told of an input above the limit
+pub told-long : (input told : List ℕ) → LONGEST_TRACE < length input → StaysInFront (refusal_head 0 reasons.Length) told →
+    HasNoRun input told
+told-long input told long says = record {
+  never = λ s t run. never-long input s t long run;
+  why_so = too_long long says;
+}
+
+-- what is told of a front that is refused
+pub told-refused : (input front trace told : List ℕ) (line : ℕ) (why : Why) → length input ≤ LONGEST_TRACE → AreParts input front trace → scenario_of front ≡ Err (At line why) →
+    StaysInFront (refusal_head line why) told → HasNoRun input told
+told-refused input front trace told line why short parts read says = record {
+  never = λ s t run.
+      let it = parts-of input s t run in
+      let same = one-parting input front trace (text_of s) it.0 parts it.1 in
+      let both = sym read ∙ ap scenario_of same.0 ∙ it.2 in
+      absurd (cc);
+  why_so = no_scenario front trace line why short parts read says;
+}
+
+-- what is told of a trace part that is refused
+pub told-trace : (front trace told : List ℕ) (s : Content) (line : ℕ) → scenario_of front ≡ Ok s → AreParts (front ++ trace) front trace →
+    length (front ++ trace) ≤ LONGEST_TRACE → 0 < length trace →
+    ((t : Trace) → IsInForm s t → trace ≡ trace_text s t → ⊥) → IsRefusedAt s trace (1 + length (lines_in front)) line →
+    told ≡ trace_refused line → HasNoRun (front ++ trace) told
+told-trace front trace told s line read parts short behind none refused says = record {
+  never = never;
+  why_so = no_trace front trace s line short parts behind read refused says;
+} where
+  never : (other : Content) (t : Trace) → IsRunOf (front ++ trace) other t → ⊥
+  never other t (traced given) = (trace-refused front trace told s line read parts short none refused says).never other t given
+  never other t (played within whole run) =
+      let it = parts-of (front ++ trace) other t (played within whole run) in
+      let same = one-parting (front ++ trace) front trace (text_of other) [] parts it.1 in
+      omega (arith, behind, ap length same.1)

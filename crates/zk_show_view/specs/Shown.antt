@@ -1,0 +1,117 @@
+-- What is printed for an input: a view of its run, or why there is none.
+use Rattle.std.specs.Prelude.{◌≡◌, ℕ, ◌+◌, ◌<◌, ◌≤◌, Option, List, [], length, Ok, Err, IfSome}
+use Rattle.std.specs.Io.KnownBytes.{Appends, Keeps}
+use Rattle.zk_base.specs.Causes.{Rose}
+use Rattle.zk_base.specs.Fronts.{StaysInFront}
+use Rattle.zk_base.specs.declared.errors.Status.{Status}
+use Rattle.zk_base.specs.declared.errors.Status.TheVariants as statuses
+use Rattle.zk_scenario.specs.Content.{Content}
+use Rattle.zk_scenario.specs.Grammar.{scenario_of}
+use Rattle.zk_scenario.specs.Players.{players}
+use Rattle.zk_scenario.specs.Spelling.{text_of}
+use Rattle.zk_scenario.specs.declared.refused.ScenarioRefused.TheVariants.{At}
+use Rattle.zk_scenario.specs.declared.refused.Why.{Why}
+use Rattle.zk_scenario.specs.declared.refused.Why.TheVariants as reasons
+use Rattle.zk_trace.specs.declared.trace.Trace.{Trace}
+use Rattle.zk_trace.specs.Feeds.{lines_in}
+use Rattle.zk_trace.specs.Parting.{AreParts}
+use Rattle.zk_trace.specs.Text.{trace_text}
+use Rattle.zk_trace.specs.TraceRead.{IsRefusedAt}
+use Rattle.zk_replay.specs.Replay.{IsReplay}
+use Rattle.zk_show_chart.specs.declared.chart.Chart.{Chart}
+use Rattle.zk_show_chart.specs.Charts.{IsChart}
+use Rattle.zk_show_text.specs.Chart.{chart_text}
+use Rattle.zk_show_svg.specs.Pictures.{IsPicture}
+use Rattle.zk_show_why.specs.Refusal.{refusal_head}
+use Rattle.zk_show_why.specs.Sentences.{TellsWhy}
+use Rattle.zk_forms.specs.declared.form.TheConstants.{LONGEST_TRACE}
+use Rattle.zk_forms.specs.CheckAnswer.{IsTraceOf, trace_refused}
+use Rattle.zk_forms.specs.Output.{AppendsFront}
+use Rattle.zk_forms.specs.Top.{Prints}
+use Rattle.zk_show_view.specs.declared.view.View.{View}
+use Rattle.zk_show_view.specs.declared.view.View.TheVariants as views
+
+-- the run of an input: the trace behind its scenario, or of a scenario alone that by round robin
+pub data IsRunOf (input : List ℕ) (s : Content) (t : Trace) : Type 0 where
+  traced : IsTraceOf input s t → IsRunOf input s t
+  played : length input ≤ LONGEST_TRACE → scenario_of input ≡ Ok s → IsReplay s t → IsRunOf input s t
+
+-- the number of the line in which the trace begins, behind the text of its scenario
+abbrev pub trace_line : Content → ℕ
+trace_line s = length (lines_in (text_of s)) + 1
+
+-- the chart of a trace, with the lines of its text
+abbrev pub IsItsChart : Content → Trace → Chart → Type 0
+IsItsChart s t chart = IsChart s t (trace_text s t) (trace_line s) chart
+
+-- a view of a trace: its chart in lines with why it ended so below, its chart as a picture, or why it ended so alone
+abbrev pub IsViewOf : View → Content → Trace → List ℕ → Type 0
+IsViewOf views.Text s t output =
+    (chart : Chart) × IsItsChart s t chart × TellsWhy s.decls t (chart_text s.decls chart) output
+IsViewOf views.Svg s t output =
+    (chart : Chart) × IsItsChart s t chart × IsPicture (length (players s.decls)) chart output
+IsViewOf views.Why s t output = TellsWhy s.decls t [] output
+
+-- a view of the run of an input
+pub record IsView (view : View) (input output : List ℕ) : Type 0 where
+  pub s : Content
+  pub t : Trace
+  pub run : IsRunOf input s t
+  pub shows : IsViewOf view s t output
+
+-- why an input has no run: it is too long, its front is refused as a scenario, or a line behind that can't stand in a trace
+pub data IsToldWhy (input output : List ℕ) : Type 0 where
+  too_long : LONGEST_TRACE < length input → StaysInFront (refusal_head 0 reasons.Length) output → IsToldWhy input output
+  no_scenario : (front trace : List ℕ) (line : ℕ) (reason : Why) → length input ≤ LONGEST_TRACE → AreParts input front trace →
+      scenario_of front ≡ Err (At line reason) → StaysInFront (refusal_head line reason) output → IsToldWhy input output
+  no_trace : (front trace : List ℕ) (s : Content) (line : ℕ) → length input ≤ LONGEST_TRACE → AreParts input front trace →
+      0 < length trace →
+      scenario_of front ≡ Ok s → IsRefusedAt s trace (1 + length (lines_in front)) line → output ≡ trace_refused line →
+      IsToldWhy input output
+
+-- an input has no run, and is told why
+pub record HasNoRun (input output : List ℕ) : Type 0 where
+  pub never : (s : Content) (t : Trace) → IsRunOf input s t → ⊥
+  pub why_so : IsToldWhy input output
+
+-- the whole output that goes with a status, for an input
+abbrev pub IsShown : View → Status → List ℕ → List ℕ → Type 0
+IsShown view statuses.Success input output = IsView view input output
+IsShown view statuses.Refused input output = HasNoRun input output
+IsShown view status input output = ⊥
+
+-- the statuses that come with a whole output for an input
+abbrev pub IsSaid : Status → Type 0
+IsSaid statuses.Success = Unit {0}
+IsSaid statuses.Refused = Unit {0}
+IsSaid status = ⊥
+
+-- all statuses that may come
+abbrev pub MayCome : Status → Type 0
+MayCome statuses.Words = Unit {0}
+MayCome statuses.ReadFault = Unit {0}
+MayCome statuses.WriteFault = Unit {0}
+MayCome statuses.NoMemory = Unit {0}
+MayCome status = IsSaid status
+
+-- the sink got a front of an output for an input, where that is told
+abbrev pub PrintsFront : View → Option (List ℕ) → Option (List ℕ) → Option (List ℕ) → Type 0
+PrintsFront view left old new =
+    IfSome left (λ input. (status : Status) × (output : List ℕ) × IsShown view status input output × AppendsFront old new output)
+
+-- how the output for an input went to the sink
+pub data Shows (view : View) (input : List ℕ) (old new : Option (List ℕ)) (faults faults' : ℕ) : Status → Type 0 where
+  shown : (status : Status) (output : List ℕ) → IsShown view status input output → Appends old new output →
+      Shows view input old new faults faults' status
+  cut_short : (status : Status) (output : List ℕ) → IsShown view status input output → AppendsFront old new output →
+      Rose faults faults' → Shows view input old new faults faults' statuses.WriteFault
+  unmade : Keeps old new → Shows view input old new faults faults' statuses.NoMemory
+
+-- how a call went that asked for a view
+pub data Went (view : View) (left old new : Option (List ℕ)) (reads reads' writes writes' : ℕ) : Status → Type 0 where
+  printed : (status : Status) → IsSaid status → Prints left old new (IsShown view status) →
+      Went view left old new reads reads' writes writes' status
+  cut : PrintsFront view left old new → Rose writes writes' →
+      Went view left old new reads reads' writes writes' statuses.WriteFault
+  unread : Rose reads reads' → Keeps old new → Went view left old new reads reads' writes writes' statuses.ReadFault
+  no_memory : Keeps old new → Went view left old new reads reads' writes writes' statuses.NoMemory

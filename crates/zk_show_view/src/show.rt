@@ -1,0 +1,262 @@
+ghost use Rattle.std.specs.Prelude.{◌≡◌, ◌≢◌, ◌⊎◌, ◌<◌, ◌≤◌, ◌++◌, None, Some, Ok, length, map, string_bytes, IfOk};
+ghost use Rattle.std.specs.Io.KnownBytes.{Appends, Keeps};
+ghost use Rattle.zk_base.specs.Causes.{Rose};
+ghost use Rattle.zk_base.specs.Fronts.{StaysInFront};
+ghost use Rattle.zk_scenario.specs.Grammar.{scenario_of};
+ghost use Rattle.zk_scenario.specs.Spelling.{text_of};
+ghost use Rattle.zk_trace.specs.Form.{IsInForm};
+ghost use Rattle.zk_trace.specs.Parting.{AreParts};
+ghost use Rattle.zk_trace.specs.Text.{trace_text};
+ghost use Rattle.zk_show_why.specs.Refusal.{refusal_head};
+ghost use Rattle.zk_forms.specs.declared.form.TheConstants.{LONGEST_TRACE};
+ghost use Rattle.zk_forms.specs.Output.{AppendsFront};
+ghost use Rattle.zk_forms.specs.Top.{Prints, words_refused};
+ghost use Rattle.zk_show_view.specs.declared.view.View.{View};
+ghost use Rattle.zk_show_view.specs.declared.view.View.TheVariants as views;
+ghost use Rattle.zk_show_view.specs.Views.{view_of};
+ghost use Rattle.zk_show_view.specs.Shown.{IsShown, IsViewOf, MayCome, PrintsFront, Shows, Went, trace_line};
+
+use crate::view::{View, view_of};
+use std::alloc::Global;
+use zk_base::{NoMemory, Sink, Source, Status};
+use zk_forms::{LONGEST_TRACE, NoInput, read_input, trace_refusal, write_text};
+use zk_replay::replay;
+use zk_scenario::{Scenario, ScenarioRefused, Why, read_scenario};
+use zk_show_chart::chart_of;
+use zk_show_svg::put_svg;
+use zk_show_text::put_text;
+use zk_show_why::{put_refusal, put_why};
+use zk_trace::{Trace, TraceRefused, line_count, put_trace, read_trace, split_text};
+
+/// The program `zk_show` over any source and any sink: it reads a scenario with a trace behind it, as `replay` and `run` print
+/// it, and shows the run. A scenario alone is played by round robin first.
+///
+/// A scenario that is refused is told of at length, whatever the view, and a trace that can't be read by the line that `check`
+/// prints: status 2. Nothing is written before all is read.
+pub fn zk_show<S: Source, K: Sink>(
+    alloc: Global,
+    words: &[String],
+    source: &mut S,
+    sink: &mut K,
+) -> Status
+    // What each status that prints says of the input and the output.
+    ensures success { (view : View) → view_of (map string_bytes words.now) ≡ Some view → result ≡ Status.Success →
+        Prints (S.left source.old) (K.held sink.old) (K.held sink.new) (IsShown view Status.Success) }
+    ensures refused { (view : View) → view_of (map string_bytes words.now) ≡ Some view → result ≡ Status.Refused →
+        Prints (S.left source.old) (K.held sink.old) (K.held sink.new) (IsShown view Status.Refused) }
+    ensures words { result ≡ Status.Words → (view_of (map string_bytes words.now) ≡ None)
+        × Appends (K.held sink.old) (K.held sink.new) words_refused }
+
+    // When each status comes.
+    ensures no_view { view_of (map string_bytes words.now) ≡ None → (result ≡ Status.Words) ⊎ (result ≡ Status.WriteFault) }
+    ensures only { MayCome result }
+    ensures read_fault { result ≡ Status.ReadFault → Rose (S.faults source.old) (S.faults source.new) }
+    ensures write_fault { result ≡ Status.WriteFault → Rose (K.faults sink.old) (K.faults sink.new) }
+
+    // Where nothing, or not all, was written.
+    ensures nothing { (result ≡ Status.ReadFault) ⊎ (result ≡ Status.NoMemory) →
+        Keeps (K.held sink.old) (K.held sink.new) }
+    ensures front { (view : View) → view_of (map string_bytes words.now) ≡ Some view → result ≡ Status.WriteFault →
+        PrintsFront view (S.left source.old) (K.held sink.old) (K.held sink.new) }
+{
+    match view_of(words) {
+        Some(view) => answer(alloc, view, source, sink),
+        None => write_made(sink, b"refused words\n", Status::Words),
+    }
+}
+
+/// Reads the input, and prints a view of it.
+fn answer<S: Source, K: Sink>(alloc: Global, view: View, source: &mut S, sink: &mut K) -> Status
+    ensures went { Went view (S.left source.old) (K.held sink.old) (K.held sink.new)
+        (S.faults source.old) (S.faults source.new) (K.faults sink.old) (K.faults sink.new) result }
+{
+    match read_input(alloc, source, LONGEST_TRACE) {
+        Ok(input) => show(alloc, view, input, sink),
+        Err(NoInput::Fault) => Status::ReadFault,
+        Err(NoInput::NoMemory) => Status::NoMemory,
+    }
+}
+
+/// Prints a view of an input.
+fn show<K: Sink>(alloc: Global, view: View, input: Vec<u8>, sink: &mut K) -> Status
+    ensures shows { Shows view input.items (K.held sink.old) (K.held sink.new) (K.faults sink.old) (K.faults sink.new) result }
+{
+    match shown(alloc, view, input) {
+        Ok((output, status)) => write_made(sink, &output, status),
+        Err(NoMemory) => Status::NoMemory,
+    }
+}
+
+/// Writes an output, and answers the status that goes with it.
+fn write_made<K: Sink>(sink: &mut K, output: &[u8], status: Status) -> Status
+    ensures whole { result ≢ Status.WriteFault → (result ≡ status) × Appends (K.held sink.old) (K.held sink.new) output.now }
+    ensures front { AppendsFront (K.held sink.old) (K.held sink.new) output.now }
+    ensures fault { result ≡ Status.WriteFault → (status ≡ Status.WriteFault) ⊎ Rose (K.faults sink.old) (K.faults sink.new) }
+{
+    match write_text(sink, output) {
+        Ok(()) => status,
+        Err(_) => Status::WriteFault,
+    }
+}
+
+/// The whole output for an input, and its status.
+fn shown(alloc: Global, view: View, input: Vec<u8>) -> Result<(Vec<u8>, Status), NoMemory>
+    ensures { IfOk result (λ made. IsShown view made.1 input.items made.0.items) }
+{
+    if LONGEST_TRACE < input.len() {
+        return Ok((refusal(alloc, &input, 0, Why::Length)?, Status::Refused));
+    }
+    let (front, trace) = split_text(&input);
+    match read_scenario(alloc, front) {
+        Ok(scenario) => run_shown(alloc, view, &scenario, front, trace),
+        Err(ScenarioRefused::At(line, why)) => {
+            Ok((refusal(alloc, front, line, why)?, Status::Refused))
+        }
+        Err(ScenarioRefused::NoMemory) => Err(NoMemory),
+    }
+}
+
+/// What is said of a scenario that is refused at this line.
+fn refusal(alloc: Global, text: &[u8], line: u32, why: Why) -> Result<Vec<u8>, NoMemory>
+    ensures { IfOk result (λ told. StaysInFront (refusal_head line why) told.items) }
+{
+    let mut out = Vec::new(alloc);
+    put_refusal(&mut out, text, line, why)?;
+    Ok(out)
+}
+
+/// The run of a scenario, whose text this is with what stands behind it, shown.
+fn run_shown(
+    alloc: Global,
+    view: View,
+    scenario: &Scenario,
+    front: &[u8],
+    text: &[u8],
+) -> Result<(Vec<u8>, Status), NoMemory>
+    requires read { scenario_of front.now ≡ Ok scenario.now }
+    requires spelled { front.now ≡ text_of scenario.now }
+    requires parts { AreParts (front.now ++ text.now) front.now text.now }
+    requires short { length (front.now ++ text.now) ≤ LONGEST_TRACE }
+    ensures { IfOk result (λ made. IsShown view made.1 (front.now ++ text.now) made.0.items) }
+{
+    if text.is_empty() {
+        return played(alloc, view, scenario, front);
+    }
+    traced(alloc, view, scenario, front, text)
+}
+
+/// The round robin run of a scenario, shown.
+fn played(
+    alloc: Global,
+    view: View,
+    scenario: &Scenario,
+    text: &[u8],
+) -> Result<(Vec<u8>, Status), NoMemory>
+    requires read { scenario_of text.now ≡ Ok scenario.now }
+    requires spelled { text.now ≡ text_of scenario.now }
+    requires short { length text.now ≤ LONGEST_TRACE }
+    ensures { IfOk result (λ made. IsShown view made.1 text.now made.0.items) }
+{
+    let first_line = line_count(text) as u32 + 1;
+    let trace = replay(alloc, scenario)?;
+    let mut printed = Vec::new(alloc);
+    put_trace(&mut printed, scenario, &trace)?;
+    let output = view_of_run(alloc, view, scenario, &trace, &printed, first_line)?;
+    Ok((output, Status::Success))
+}
+
+/// The trace behind a scenario's text, shown.
+fn traced(
+    alloc: Global,
+    view: View,
+    scenario: &Scenario,
+    front: &[u8],
+    text: &[u8],
+) -> Result<(Vec<u8>, Status), NoMemory>
+    requires read { scenario_of front.now ≡ Ok scenario.now }
+    requires spelled { front.now ≡ text_of scenario.now }
+    requires parts { AreParts (front.now ++ text.now) front.now text.now }
+    requires short { length (front.now ++ text.now) ≤ LONGEST_TRACE }
+    requires behind { 0 < length text.now }
+    ensures { IfOk result (λ made. IsShown view made.1 (front.now ++ text.now) made.0.items) }
+{
+    let first_line = line_count(front) as u32 + 1;
+    match read_trace(alloc, scenario, text, first_line) {
+        Ok(trace) => {
+            let output = view_of_run(alloc, view, scenario, &trace, text, first_line)?;
+            Ok((output, Status::Success))
+        }
+        Err(TraceRefused::At(line)) => Ok((trace_refusal(alloc, line)?, Status::Refused)),
+        Err(TraceRefused::NoMemory) => Err(NoMemory),
+    }
+}
+
+/// A view of a trace, whose text begins with the line of this number.
+fn view_of_run(
+    alloc: Global,
+    view: View,
+    scenario: &Scenario,
+    trace: &Trace,
+    text: &[u8],
+    first_line: u32,
+) -> Result<Vec<u8>, NoMemory>
+    requires form { IsInForm scenario.now trace.now }
+    requires text { text.now ≡ trace_text scenario.now trace.now }
+    requires first { first_line ≡ trace_line scenario.now }
+    ensures { IfOk result (λ output. IsViewOf view scenario.now trace.now output.items) }
+{
+    match view {
+        View::Text => text_of_run(alloc, scenario, trace, text, first_line),
+        View::Svg => svg_of_run(alloc, scenario, trace, text, first_line),
+        View::Why => why_of_run(alloc, scenario, trace),
+    }
+}
+
+/// The chart of a trace in lines, and why the run ended so.
+fn text_of_run(
+    alloc: Global,
+    scenario: &Scenario,
+    trace: &Trace,
+    text: &[u8],
+    first_line: u32,
+) -> Result<Vec<u8>, NoMemory>
+    requires form { IsInForm scenario.now trace.now }
+    requires text { text.now ≡ trace_text scenario.now trace.now }
+    requires first { first_line ≡ trace_line scenario.now }
+    ensures { IfOk result (λ output. IsViewOf views.Text scenario.now trace.now output.items) }
+{
+    let chart = chart_of(alloc, scenario, trace, text, first_line)?;
+    let mut out = Vec::new(alloc);
+    put_text(&mut out, scenario, &chart)?;
+    put_why(&mut out, scenario, trace)?;
+    Ok(out)
+}
+
+/// The picture of a trace.
+fn svg_of_run(
+    alloc: Global,
+    scenario: &Scenario,
+    trace: &Trace,
+    text: &[u8],
+    first_line: u32,
+) -> Result<Vec<u8>, NoMemory>
+    requires form { IsInForm scenario.now trace.now }
+    requires text { text.now ≡ trace_text scenario.now trace.now }
+    requires first { first_line ≡ trace_line scenario.now }
+    ensures { IfOk result (λ output. IsViewOf views.Svg scenario.now trace.now output.items) }
+{
+    let notes = why_of_run(alloc, scenario, trace)?;
+    let chart = chart_of(alloc, scenario, trace, text, first_line)?;
+    let mut out = Vec::new(alloc);
+    put_svg(&mut out, scenario, &chart, &notes)?;
+    Ok(out)
+}
+
+/// Why a run ended so, in sentences.
+fn why_of_run(alloc: Global, scenario: &Scenario, trace: &Trace) -> Result<Vec<u8>, NoMemory>
+    ensures { IfOk result (λ output. IsViewOf views.Why scenario.now trace.now output.items) }
+{
+    let mut out = Vec::new(alloc);
+    put_why(&mut out, scenario, trace)?;
+    Ok(out)
+}

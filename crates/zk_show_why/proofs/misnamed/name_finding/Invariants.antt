@@ -1,0 +1,5 @@
+use Rattle.std.proofs.Common.{length}
+use Rattle.zk_show_why.proofs.misnamed.name_finding.Given as goal
+
+abbrev pub decreases-loop-part : goal.decreases-loop-part
+decreases-loop-part l = length l.left.parts

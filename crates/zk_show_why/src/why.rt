@@ -1,0 +1,55 @@
+ghost use Rattle.std.specs.Prelude.{◌≡◌, OnOk};
+ghost use Rattle.zk_base.specs.Fronts.{StaysInFront};
+ghost use Rattle.zk_show_why.specs.Sentences.{ending_words, TellsWhy};
+
+use crate::circle::put_circles;
+use crate::run::Run;
+use crate::sentences::put_sentences;
+use crate::still::put_time;
+use std::alloc::Global;
+use zk_base::{NoMemory, put};
+use zk_scenario::Scenario;
+use zk_trace::{Ending, Trace};
+use zk_worker::PlayerState;
+
+/// Appends how a run ended and why, in sentences, one a line: of each player that has made all its steps, that stands, or that
+/// an oops has ended; of players that wait for each other; and of time, where it stands still.
+pub fn put_why(out: &mut Vec<u8>, scenario: &Scenario, trace: &Trace) -> Result<(), NoMemory>
+    ensures told { OnOk result (TellsWhy scenario.now.decls trace.now out.old.items out.new.items) }
+    ensures kept { StaysInFront out.old.items out.new.items }
+{
+    let run = Run::of(*out.allocator(), scenario, trace)?;
+    put(out, ending_text(trace.ending))?;
+    put_sentences(out, &run, PlayerState::Spent)?;
+    put_sentences(out, &run, PlayerState::Standing)?;
+    put_sentences(out, &run, PlayerState::Oops)?;
+    match trace.ending {
+        Ending::Ended => Ok(()),
+        Ending::Stuck => {
+            let told = stuck_told(*out.allocator(), &run)?;
+            put(out, &told)
+        }
+        Ending::Spent => Ok(()),
+    }
+}
+
+fn ending_text(ending: Ending) -> &'static [u8]
+    ensures { result.now ≡ ending_words ending }
+{
+    match ending {
+        Ending::Ended => {
+            b"ended: each thread is through or was ended by an oops, and no admission waits.\n"
+        }
+        Ending::Stuck => b"stuck: no player can go on.\n",
+        Ending::Spent => b"spent: a player has made all its steps.\n",
+    }
+}
+
+// Who waits for each other, and whether time stands still.
+fn stuck_told(alloc: Global, run: &Run<'_>) -> Result<Vec<u8>, NoMemory> {
+    let mut out = Vec::new(alloc);
+    let open = run.players_in(alloc, PlayerState::Standing)?;
+    put_circles(&mut out, run, &open)?;
+    put_time(&mut out, run, &open)?;
+    Ok(out)
+}
