@@ -9,7 +9,7 @@ use Rattle.std.proofs.lemmas.Option.{slice_get-map}
 use Rattle.zk_scenario.specs.Players.{players}
 use Rattle.zk_kernel.specs.declared.caller.Caller.{Caller}
 use Rattle.zk_kernel.specs.Callers.{IsCaller, place_of}
-use Rattle.zk_kernel.specs.Kernels.{Shared}
+use Rattle.zk_cells.specs.Kernels.{Shared}
 use Rattle.zk_kernel.specs.Rests.{AreAllCallers}
 use Rattle.zk_pool.specs.Counts.{tally}
 use Rattle.zk_pool.specs.declared.pool.Pool.{Pool}

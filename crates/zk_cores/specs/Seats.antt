@@ -2,7 +2,7 @@
 use Rattle.std.specs.Prelude.{◌≡◌, ℕ, zero, suc, ◌+◌, List, [], ◌∷◌}
 use Rattle.zk_kernel.specs.declared.caller.Caller.{Caller}
 use Rattle.zk_kernel.specs.Callers.{IsCaller, place_of}
-use Rattle.zk_kernel.specs.Kernels.{Shared}
+use Rattle.zk_cells.specs.Kernels.{Shared}
 use Rattle.zk_pool.specs.declared.pool.Pool.{Pool}
 use Rattle.zk_pool.specs.Keepers.{Keeps, keeper_aside}
 use Rattle.zk_cores.specs.declared.seat.Seat.{Seat}

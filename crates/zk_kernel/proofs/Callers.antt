@@ -15,10 +15,10 @@ use Rattle.zk_worker.proofs.CheckedSteps.{after-spots}
 use Rattle.zk_world.specs.SoundPlayer.{IsSoundPlayer}
 use Rattle.zk_world.proofs.Players.{player-stepped, player-still}
 use Rattle.zk_base.specs.declared.ids.Who.{Who}
-use Rattle.zk_kernel.specs.declared.cells.Cells.{Cells}
-use Rattle.zk_kernel.specs.declared.passes.Passes.{Passes}
+use Rattle.zk_cells.specs.declared.cells.Cells.{Cells}
+use Rattle.zk_cells.specs.declared.passes.Passes.{Passes}
 use Rattle.zk_kernel.specs.Callers.{IsPlaying}
-use Rattle.zk_kernel.specs.Desks.{IsServed, desk_shown}
+use Rattle.zk_cells.specs.Desks.{IsServed, desk_shown}
 
 -- a step doesn't change who the player is
 pub same-who : (alone : Bool) (m : Machines) (s : Content) (at at' : PlayerPlace) (old new : Shown) (counts counts' : Counts) (result : Result Stepped NoMemory) →

@@ -27,8 +27,8 @@ use Rattle.zk_model_wait.specs.contracts.msgq.MsgqStore as msgq_store
 use Rattle.zk_model_bus.specs.contracts.observer.ObsReply as obs_reply
 use Rattle.circular_buffer.proofs.Crosses.{Cells-send, Deed-send}
 use Rattle.zk_base.specs.contracts.message.Msg as message
-use Rattle.zk_kernel.specs.contracts.passes.Passes as passes
-use Rattle.zk_kernel.specs.contracts.cells.Cells as cells
+use Rattle.zk_cells.specs.contracts.passes.Passes as passes
+use Rattle.zk_cells.specs.contracts.cells.Cells as cells
 use Rattle.zk_kernel.specs.contracts.caller.Caller as caller
 use Rattle.zk_kernel.specs.contracts.kernel.Kernel as kernel
 use Rattle.zk_kernel.specs.contracts.news.News as news
@@ -59,7 +59,7 @@ use Rattle.zk_sem.specs.contracts.sem.Sem as sem
 use Rattle.zk_msgq.specs.contracts.msgq.Msgq as msgq
 use Rattle.zk_signal.specs.contracts.pass.SigPass as sig_pass
 use Rattle.zk_signal.specs.contracts.signal.SharedSignal as shared_signal
-use Rattle.zk_kernel.specs.contracts.notes.Note as note
+use Rattle.zk_cells.specs.contracts.notes.Note as note
 use Rattle.zk_bus.specs.contracts.channel.Channel as chan
 use Rattle.zk_subq.specs.contracts.observer.Observer as observer
 

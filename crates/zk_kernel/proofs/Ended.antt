@@ -12,19 +12,19 @@ use Rattle.zk_signal.specs.declared.pass.SigPass.{SigPass}
 use Rattle.zk_signal.specs.declared.signal.SharedSignal.{SharedSignal}
 use Rattle.zk_worker.specs.Families.{entry_at}
 use Rattle.zk_kernel.specs.declared.caller.Caller.{Caller}
-use Rattle.zk_kernel.specs.declared.cells.Cells.{Cells}
-use Rattle.zk_kernel.specs.declared.notes.Note.{Note}
-use Rattle.zk_kernel.specs.declared.passes.Passes.{Passes}
+use Rattle.zk_cells.specs.declared.cells.Cells.{Cells}
+use Rattle.zk_cells.specs.declared.notes.Note.{Note}
+use Rattle.zk_cells.specs.declared.passes.Passes.{Passes}
 use Rattle.zk_kernel.specs.Callers.{IsAtDesk, IsCaller, place_of}
-use Rattle.zk_kernel.specs.Closed.{AreInStep}
-use Rattle.zk_kernel.specs.Desks.{IsServed}
-use Rattle.zk_kernel.specs.Joined.{noted_by, found_at, all_noted, all_found}
-use Rattle.zk_kernel.specs.Kernels.{Shared}
-use Rattle.zk_kernel.specs.Notes.{Write, stamp_of, stamp_noted, step_noted, entries_of, notes_at, writes_at, writes_to}
+use Rattle.zk_cells.specs.Closed.{AreInStep}
+use Rattle.zk_cells.specs.Desks.{IsServed}
+use Rattle.zk_kernel.specs.Gathered.{noted_by, found_at, all_noted, all_found}
+use Rattle.zk_cells.specs.Kernels.{Shared}
+use Rattle.zk_cells.specs.Notes.{Write, stamp_of, stamp_noted, step_noted, entries_of, notes_at, writes_at, writes_to}
 use Rattle.zk_kernel.specs.Rests.{AreAllCallers}
-use Rattle.zk_kernel.specs.Signals.{signals_by, top_by, IsOwnAt, HaveOwn, IsShownIn}
-use Rattle.zk_kernel.proofs.Noted.{contains-none, contains-cases, contains-map, write-of-note}
-use Rattle.zk_kernel.proofs.Shares.{shown-at}
+use Rattle.zk_cells.specs.Signals.{signals_by, top_by, IsOwnAt, HaveOwn, IsShownIn}
+use Rattle.zk_cells.proofs.Noted.{contains-none, contains-cases, contains-map, write-of-note}
+use Rattle.zk_cells.proofs.Shares.{shown-at}
 
 -- a note is some caller's
 pub noted-from : (callers : List Caller) (n : Note) → Contains (all_noted callers) n → (q : ℕ) × (c : Caller) × (slice_get callers q ≡ Some c) × Contains (noted_by c.passes) n

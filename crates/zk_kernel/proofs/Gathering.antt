@@ -17,19 +17,20 @@ use Rattle.zk_worker.specs.Families.{EachGrew}
 use Rattle.zk_worker.specs.Shown.{Shown, AllGrew}
 use Rattle.zk_worker.proofs.Between.{looks-none, grew-none_each, between-none, between-both}
 use Rattle.zk_kernel.specs.declared.caller.Caller.{Caller}
-use Rattle.zk_kernel.specs.declared.cells.Cells.{Cells}
-use Rattle.zk_kernel.specs.declared.notes.Note.{Note}
-use Rattle.zk_kernel.specs.declared.passes.Passes.{Passes}
+use Rattle.zk_cells.specs.declared.cells.Cells.{Cells}
+use Rattle.zk_cells.specs.declared.notes.Note.{Note}
+use Rattle.zk_cells.specs.declared.passes.Passes.{Passes}
 use Rattle.zk_kernel.specs.Callers.{place_of, shown_to, shown_by}
-use Rattle.zk_kernel.specs.Seats.{IsAt}
-use Rattle.zk_kernel.specs.Desks.{IsServed, desk_shown}
-use Rattle.zk_kernel.specs.Lasting.{late}
-use Rattle.zk_kernel.specs.Notes.{writes_at}
-use Rattle.zk_kernel.specs.Signals.{looks_at_number}
-use Rattle.zk_kernel.specs.Rows.{AreSeats}
-use Rattle.zk_kernel.specs.Joined.{StandsFor, AllStand, EachGoesOn, AreFor, AllGoOn, whos, players_of, numbers_of, left_at, HaveShared, noted_by, found_at, all_noted, all_found, IsAmong, AreGathered, AreTogether}
-use Rattle.zk_kernel.proofs.Noted.{left-append}
-use Rattle.zk_kernel.proofs.Sharing.{own-shared, shared-same}
+use Rattle.zk_visit.specs.Seats.{IsAt}
+use Rattle.zk_cells.specs.Desks.{IsServed, desk_shown}
+use Rattle.zk_cells.specs.Lasting.{late}
+use Rattle.zk_cells.specs.Notes.{writes_at}
+use Rattle.zk_cells.specs.Signals.{looks_at_number}
+use Rattle.zk_cells.specs.Rows.{AreSeats}
+use Rattle.zk_cells.specs.Joined.{StandsFor, AllStand, EachGoesOn, AreFor, AllGoOn, whos, numbers_of, left_at, HaveShared}
+use Rattle.zk_kernel.specs.Gathered.{players_of, noted_by, found_at, all_noted, all_found, IsAmong, AreGathered, AreTogether}
+use Rattle.zk_cells.proofs.Noted.{left-append}
+use Rattle.zk_cells.proofs.Sharing.{own-shared, shared-same}
 
 has_left : (ws us : List Who) (n : ℕ) → has ws n ≡ true → has (ws ++ us) n ≡ true
 has_left [] us n is = absurd (cc)

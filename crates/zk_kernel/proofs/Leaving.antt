@@ -32,21 +32,22 @@ use Rattle.zk_base.specs.declared.seen.Seen.{Seen}
 use Rattle.zk_poll.specs.Seen.{signal_history}
 use Rattle.zk_scenario.proofs.Valid.{length-players}
 use Rattle.zk_services.specs.Objects.{histories_of}
-use Rattle.zk_kernel.specs.declared.cells.Cells.{Cells}
-use Rattle.zk_kernel.specs.declared.notes.Note.{Note}
-use Rattle.zk_kernel.specs.declared.passes.Passes.{Passes}
+use Rattle.zk_cells.specs.declared.cells.Cells.{Cells}
+use Rattle.zk_cells.specs.declared.notes.Note.{Note}
+use Rattle.zk_cells.specs.declared.passes.Passes.{Passes}
 use Rattle.zk_kernel.specs.Callers.{IsAtDesk, IsCaller, place_of, shown_by, shown_to}
-use Rattle.zk_kernel.specs.Desks.{desk_shown}
-use Rattle.zk_kernel.specs.Lasting.{Closes}
-use Rattle.zk_kernel.specs.Notes.{Write, entries_of, writes_at}
-use Rattle.zk_kernel.specs.Kernels.{Shared, AreWhole, IsMadeFor}
+use Rattle.zk_cells.specs.Desks.{desk_shown}
+use Rattle.zk_cells.specs.Lasting.{Closes}
+use Rattle.zk_cells.specs.Notes.{Write, entries_of, writes_at}
+use Rattle.zk_cells.specs.Kernels.{Shared, AreWhole, IsMadeFor}
 use Rattle.zk_kernel.specs.Rests.{AreAllCallers}
-use Rattle.zk_kernel.specs.Closed.{AreBy, AllBy, AreInStep, ArePlayed, ended}
-use Rattle.zk_kernel.specs.Joined.{whos, players_of, numbers_of, left_at, HaveShared, AreFor, all_noted, all_found, IsAmong, AreGathered}
+use Rattle.zk_cells.specs.Closed.{AreBy, AllBy, AreInStep, ArePlayed, ended}
+use Rattle.zk_cells.specs.Joined.{whos, numbers_of, left_at, HaveShared, AreFor}
+use Rattle.zk_kernel.specs.Gathered.{players_of, all_noted, all_found, IsAmong, AreGathered}
 use Rattle.zk_kernel.proofs.Ended.{all-in-step, noted-from, note-by, caller-at}
-use Rattle.zk_kernel.proofs.Lasting.{closes-sound}
+use Rattle.zk_cells.proofs.Lasting.{closes-sound}
 use Rattle.zk_kernel.proofs.LeftBehind.{closes-caller}
-use Rattle.zk_kernel.proofs.PlayedSignals.{Played}
+use Rattle.zk_cells.proofs.PlayedSignals.{Played}
 
 -- one of the players has this number
 has-there : (players : List PlayerPlace) (n : ℕ) → has (whos players) n ≡ true → (p : ℕ) × (at : PlayerPlace) × (slice_get players p ≡ Some at) × (at.who.number ≡ n)

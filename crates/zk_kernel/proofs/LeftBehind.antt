@@ -16,21 +16,21 @@ use Rattle.zk_signal.proofs.Ordering.{counts-at, place-of}
 use Rattle.zk_worker.specs.Families.{entry_at}
 use Rattle.zk_worker.specs.Shown.{Shown, AllGrew}
 use Rattle.zk_kernel.specs.declared.caller.Caller.{Caller}
-use Rattle.zk_kernel.specs.declared.notes.Note.{Note}
-use Rattle.zk_kernel.specs.declared.passes.Passes.{Passes}
+use Rattle.zk_cells.specs.declared.notes.Note.{Note}
+use Rattle.zk_cells.specs.declared.passes.Passes.{Passes}
 use Rattle.zk_kernel.specs.Callers.{place_of, shown_to, shown_by}
-use Rattle.zk_kernel.specs.Closed.{ended, IsPlayed, ArePlayed}
-use Rattle.zk_kernel.specs.Desks.{IsServed, desk_shown}
-use Rattle.zk_kernel.specs.Joined.{noted_by, found_at, all_noted, all_found}
-use Rattle.zk_kernel.specs.Kernels.{Shared}
-use Rattle.zk_kernel.specs.Lasting.{late, IsLookAt, Closes}
-use Rattle.zk_kernel.specs.Notes.{Write, nobody, unseen, stamp_of, writes_at, write_at}
+use Rattle.zk_cells.specs.Closed.{ended, IsPlayed, ArePlayed}
+use Rattle.zk_cells.specs.Desks.{IsServed, desk_shown}
+use Rattle.zk_kernel.specs.Gathered.{noted_by, found_at, all_noted, all_found}
+use Rattle.zk_cells.specs.Kernels.{Shared}
+use Rattle.zk_cells.specs.Lasting.{late, IsLookAt, Closes}
+use Rattle.zk_cells.specs.Notes.{Write, nobody, unseen, stamp_of, writes_at, write_at}
 use Rattle.zk_kernel.specs.Rests.{AreAllCallers}
-use Rattle.zk_kernel.specs.Signals.{signals_by, top_by, looks_by, looks_at_number, HaveOwn, IsOwnAt}
+use Rattle.zk_cells.specs.Signals.{signals_by, top_by, looks_by, looks_at_number, HaveOwn, IsOwnAt}
 use Rattle.zk_kernel.proofs.Ended.{noted-from, noted-in, found-in, shown-pass, noted-there, passes-of, caller-at, note-by, one-caller}
-use Rattle.zk_kernel.proofs.Noted.{contains-at, note-of, write-of-note, own-or-unseen, stamp-write, write-own, at-stamp, at-place}
-use Rattle.zk_kernel.proofs.PlayedSignals.{Played}
-use Rattle.zk_kernel.proofs.Shares.{shown-there, shown-at, looks-there}
+use Rattle.zk_cells.proofs.Noted.{contains-at, note-of, write-of-note, own-or-unseen, stamp-write, write-own, at-stamp, at-place}
+use Rattle.zk_cells.proofs.PlayedSignals.{Played}
+use Rattle.zk_cells.proofs.Shares.{shown-there, shown-at, looks-there}
 
 -- a signal that was played
 pub played-there : (own : ℕ → List Write) (found : ℕ → List Seen) (ss : List (Option SharedSignal)) (xs : List (Option Played)) (object : ℕ) (s : SharedSignal) → ArePlayed own found ss xs → slice_get ss object ≡ Some (Some s) →

@@ -54,23 +54,23 @@ use Rattle.zk_services.specs.Starts.{starts}
 use Rattle.zk_services.proofs.Firsts.{few-items}
 use Rattle.zk_services.proofs.Starts.{length-starts, numbers-starts, starts-there}
 use Rattle.zk_kernel.specs.declared.caller.Caller.{Caller}
-use Rattle.zk_kernel.specs.declared.cells.Cells.{Cells}
-use Rattle.zk_kernel.specs.declared.dealing.Undealt.{Undealt}
-use Rattle.zk_kernel.specs.declared.passes.Passes.{Passes}
+use Rattle.zk_cells.specs.declared.cells.Cells.{Cells}
+use Rattle.zk_cells.specs.declared.dealing.Undealt.{Undealt}
+use Rattle.zk_cells.specs.declared.passes.Passes.{Passes}
 use Rattle.zk_kernel.specs.Callers.{IsAtDesk, IsCaller, place_of, shown_by, counts_by}
-use Rattle.zk_kernel.specs.declared.notes.Note.{Note}
-use Rattle.zk_kernel.specs.Dealt.{IsBegun, IsUnused, AreUnused, AreUndealt, IsDealt, AreNew, HasNew, IsUnplayed}
-use Rattle.zk_kernel.specs.Desks.{IsServed, cells_machines, desk_shown, desk_counts, capped}
-use Rattle.zk_kernel.specs.Joined.{whos}
-use Rattle.zk_kernel.specs.Kernels.{Shared, AreWhole, IsMadeFor}
-use Rattle.zk_kernel.specs.Notes.{Write, writes_at}
-use Rattle.zk_kernel.specs.Opened.{nothing_seen, AreNewCallers}
-use Rattle.zk_kernel.specs.Rows.{starts_in, holds_in}
-use Rattle.zk_kernel.specs.Seats.{holds_at}
-use Rattle.zk_kernel.specs.Signals.{signals_by, looks_in, IsShownIn, HaveOwn, AreNoted}
-use Rattle.zk_kernel.proofs.NewShares.{all-sig-left-taken, own-new, shown-none, looks-none, idle-none}
+use Rattle.zk_cells.specs.declared.notes.Note.{Note}
+use Rattle.zk_cells.specs.Dealt.{IsBegun, IsUnused, AreUnused, AreUndealt, IsDealt, AreNew, HasNew}
+use Rattle.zk_cells.specs.Desks.{IsServed, cells_machines, desk_shown, desk_counts, capped}
+use Rattle.zk_cells.specs.Joined.{whos}
+use Rattle.zk_cells.specs.Kernels.{Shared, AreWhole, IsMadeFor}
+use Rattle.zk_cells.specs.Notes.{Write, writes_at}
+use Rattle.zk_kernel.specs.Opened.{IsUnplayed, nothing_seen, AreNewCallers}
+use Rattle.zk_cells.specs.Rows.{starts_in, holds_in}
+use Rattle.zk_visit.specs.Seats.{holds_at}
+use Rattle.zk_cells.specs.Signals.{signals_by, looks_in, IsShownIn, HaveOwn, AreNoted}
+use Rattle.zk_cells.proofs.NewShares.{all-sig-left-taken, own-new, shown-none, looks-none, idle-none}
 use Rattle.zk_kernel.proofs.SoundLooks.{player-seen}
-use Rattle.zk_kernel.proofs.NewPasses.{left-taken, all-left-taken, at-new, seats-new, seen-new, idle-new, all-seen-new, all-idle-new}
+use Rattle.zk_cells.proofs.NewPasses.{left-taken, all-left-taken, at-new, seats-new, seen-new, idle-new, all-seen-new, all-idle-new}
 
 -- where nothing is shown of services nothing was done at them
 unused : {S E : Type 0} (history : S → List E) (x : Option S) → history_of history x ≡ [] → IsUnused history x

@@ -21,7 +21,7 @@ use Rattle.zk_worker.specs.Places.{PlayerPlace}
 use Rattle.zk_worker.specs.Playing.{HasStepped, HasWaited, HasStopped}
 use Rattle.zk_worker.specs.Shown.{OnlyOthersCame}
 use Rattle.zk_kernel.specs.Calling.{Moment, IsCalled, IsLeft, IsSpent, is_answered, is_checking}
-use Rattle.zk_kernel.specs.Kernels.{Shared}
+use Rattle.zk_cells.specs.Kernels.{Shared}
 use Rattle.zk_worker.specs.Next.{role_call, top_call, next_call}
 use Rattle.zk_kernel.specs.Within.{IsCallOf, IsCheckedOrSame, IsUnderWay, answer_since}
 use Rattle.zk_kernel.proofs.Within.{Stays, Ends, none-came, within-steps}

@@ -1,14 +1,14 @@
 -- All callers of a kernel, as some of them go on.
-use Rattle.std.proofs.Common.{◌≡◌, ◌<◌, ℕ, Bool, true, false, cond, eqb, Some, List, ◌++◌, length, set, get_or, take, drop, refl, sym, ap, subst, ◌∙◌, arith, append-nil}
+use Rattle.std.proofs.Common.{◌≡◌, ◌<◌, ℕ, Bool, true, false, cond, eqb, Some, List, length, set, get_or, refl, sym, ap, subst, ◌∙◌, arith}
 use Rattle.std.specs.List.{slice_get}
 use Rattle.std.proofs.lemmas.Bool.{eqb-true}
-use Rattle.std.proofs.lemmas.List.{length-set, drop_all, take_all}
+use Rattle.std.proofs.lemmas.List.{length-set}
 use Rattle.std.proofs.lemmas.Option.{slice_get_within, slice_get-get_or, slice_get_read, get_or_from_slice_get}
 use Rattle.zk_base.specs.declared.ids.Who.{Who}
 use Rattle.zk_line.proofs.Lists.{slice_get-set}
 use Rattle.zk_kernel.specs.declared.caller.Caller.{Caller}
 use Rattle.zk_kernel.specs.Callers.{IsCaller, place_of}
-use Rattle.zk_kernel.specs.Kernels.{Shared}
+use Rattle.zk_cells.specs.Kernels.{Shared}
 use Rattle.zk_kernel.specs.Rests.{AreAllCallers}
 
 -- a caller is of the player that this one was of
@@ -49,12 +49,6 @@ one-on k old place c inside own same all = all-still k old (set old place c) (le
       stood = here;
       same = refl;
     }
-
--- what a slice of all of a list leaves there is the slice
-pub written-back : {A : Type 0} (old new : List A) (n : ℕ) → length new ≡ length old → n ≡ length old → take n (new ++ drop (length new) old) ≡ new
-written-back {A} old new n long many =
-    ap (λ (l : List A). take n (new ++ l)) (drop_all (length new) old (omega (arith, long)))
-    ∙ ap (λ (l : List A). take n l) (append-nil new) ∙ take_all n new (omega (arith, long, many))
 
 -- the caller of this number went on
 pub gone-on : (k : Shared) (old : List Caller) (place len : ℕ) (was c : Caller) → len ≡ length old → place < len → was ≡ get_or old place was → IsCaller k c → (place_of c).who ≡ (place_of was).who → AreAllCallers k old →

@@ -11,10 +11,10 @@ use Rattle.zk_worker.specs.declared.steps.StepReply.{StepReply}
 use Rattle.zk_worker.specs.Shown.{Shown, nothing_shown}
 use Rattle.zk_world.specs.SoundPlayer.{IsSoundPlayer}
 use Rattle.zk_kernel.specs.declared.caller.Caller.{Caller}
-use Rattle.zk_kernel.specs.declared.cells.Cells.{Cells}
-use Rattle.zk_kernel.specs.declared.passes.Passes.{Passes}
-use Rattle.zk_kernel.specs.Desks.{IsServed, desk_shown, desk_counts}
-use Rattle.zk_kernel.specs.Kernels.{Shared}
+use Rattle.zk_cells.specs.declared.cells.Cells.{Cells}
+use Rattle.zk_cells.specs.declared.passes.Passes.{Passes}
+use Rattle.zk_cells.specs.Desks.{IsServed, desk_shown, desk_counts}
+use Rattle.zk_cells.specs.Kernels.{Shared}
 
 -- where its player stands
 abbrev pub place_of : Caller → PlayerPlace

@@ -17,7 +17,7 @@ use Rattle.zk_kernel.specs.declared.caller.Caller.{Caller}
 use Rattle.zk_kernel.specs.declared.stop.Stop.{Stop}
 use Rattle.zk_kernel.specs.declared.stop.Stop.TheVariants as stops
 use Rattle.zk_kernel.specs.Callers.{place_of, shown_to, counts_of}
-use Rattle.zk_kernel.specs.Kernels.{Shared}
+use Rattle.zk_cells.specs.Kernels.{Shared}
 
 -- a moment of a caller: where its player stands, what it has seen, and how many turns it had
 pub record Moment : Type 0 where

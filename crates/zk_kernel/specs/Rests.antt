@@ -11,8 +11,8 @@ use Rattle.zk_world.specs.Sound.{IsSound}
 use Rattle.zk_world.specs.World.{World}
 use Rattle.zk_kernel.specs.declared.caller.Caller.{Caller}
 use Rattle.zk_kernel.specs.Callers.{IsCaller, place_of, shown_to}
-use Rattle.zk_kernel.specs.Kernels.{Shared}
-use Rattle.zk_kernel.specs.Lasting.{Closes}
+use Rattle.zk_cells.specs.Kernels.{Shared}
+use Rattle.zk_cells.specs.Lasting.{Closes}
 
 -- what is left: the scenario, what the services show, and where each player stands
 pub record Left : Type 0 where

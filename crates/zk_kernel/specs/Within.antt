@@ -12,7 +12,7 @@ use Rattle.zk_worker.specs.Ranges.{is_start}
 use Rattle.zk_worker.specs.declared.answers.Answer.{Answer}
 use Rattle.zk_kernel.specs.declared.stop.Stop.{Stop}
 use Rattle.zk_kernel.specs.Calling.{Moment, CameBy, HasCalled, is_checking}
-use Rattle.zk_kernel.specs.Kernels.{Shared}
+use Rattle.zk_cells.specs.Kernels.{Shared}
 
 -- the call at which an open script stands
 pub record IsCallOf (s : Content) (frame : Frame) (call : Call) : Type 0 where

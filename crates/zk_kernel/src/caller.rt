@@ -7,11 +7,10 @@ ghost use Rattle.zk_worker.specs.Protocol.{attempts};
 ghost use Rattle.zk_worker.specs.Shown.{OnlyOthersCame};
 ghost use Rattle.zk_kernel.specs.Callers.{IsCaller, place_of, shown_to, counts_of, is_stopped, lives};
 
-use crate::desk::Desk;
 use crate::kernel::Kernel;
-use crate::passes::Passes;
 use std::sync::Wait;
 use zk_base::{NoMemory, Who};
+use zk_cells::{Desk, Passes};
 use zk_line::Call;
 use zk_worker::{Mode, Player, Step, Stepped};
 

@@ -5,18 +5,18 @@ ghost use Rattle.zk_worker.specs.Machines.{machines_of};
 ghost use Rattle.zk_worker.specs.Protocol.{IsAhead};
 ghost use Rattle.zk_kernel.specs.Callers.{IsCaller, place_of, shown_to, counts_of, is_stopped, lives, attempted_at};
 ghost use Rattle.zk_kernel.specs.Calling.{Moment, moment_of, HasCalled, stops_by};
-ghost use Rattle.zk_kernel.specs.Memory.{wants_none};
+ghost use Rattle.zk_cells.specs.Memory.{wants_none};
 ghost use Rattle.zk_worker.specs.Next.{next_call};
 ghost use Rattle.zk_kernel.specs.Within.{IsUnderWay, GoesOrGives, answer_since};
 ghost use Rattle.zk_worker.specs.Follows.{is_through};
 
 use crate::caller::Caller;
-use crate::desk::Desk;
 use crate::kernel::Kernel;
 use crate::news::Patience;
 use crate::stop::Stop;
 use std::sync::Wait;
 use zk_base::NoMemory;
+use zk_cells::Desk;
 use zk_line::Call;
 use zk_worker::{Answer, MOST_ATTEMPTS, Mode, Services, Step, StepReply, Stepped};
 

@@ -1,19 +1,16 @@
 ghost use Rattle.std.specs.Prelude.{◌≡◌, ◌+◌, ◌<◌, ◌≤◌, ◌++◌, ◌∷◌, [], List, Some, map, IfOk, vec_len, vec_capacity};
 ghost use Rattle.zk_kernel.specs.declared.caller.Caller.{Caller};
 ghost use Rattle.zk_kernel.specs.Callers.{IsCaller, place_of};
-ghost use Rattle.zk_kernel.specs.Desks.{IsServed};
-ghost use Rattle.zk_kernel.specs.Joined.{AreTogether, AreGathered};
+ghost use Rattle.zk_cells.specs.Desks.{IsServed};
+ghost use Rattle.zk_kernel.specs.Gathered.{AreTogether, AreGathered};
 ghost use Rattle.zk_kernel.specs.Rests.{AreAllCallers, HasClosed};
 
 use crate::caller::Caller;
-use crate::cells::Cells;
-use crate::emptying::empty_cells;
-use crate::joining::join_passes;
 use crate::kernel::Kernel;
-use crate::passes::Passes;
 use crate::rest::Rest;
 use std::alloc::Global;
 use zk_base::{NoMemory, push_within};
+use zk_cells::{Cells, Passes, empty_cells, join_passes};
 use zk_scenario::Scenario;
 use zk_worker::Player;
 

@@ -1,10 +1,10 @@
 ghost use Rattle.std.specs.Prelude.{◌≡◌};
 ghost use Rattle.zk_scenario.specs.Valid.{IsValid};
-ghost use Rattle.zk_kernel.specs.Kernels.{IsMadeFor};
+ghost use Rattle.zk_cells.specs.Kernels.{IsMadeFor};
 
-use crate::cells::Cells;
 use crate::news::News;
 use std::marker::Model;
+use zk_cells::Cells;
 use zk_scenario::Scenario;
 
 /// The services of a scenario, which the threads of its players share by reference.
@@ -19,7 +19,7 @@ pub struct Kernel {
 }
 
 impl Model for Kernel {
-    ghost use Rattle.zk_kernel.specs.Kernels.{Shared, IsMadeFor};
+    ghost use Rattle.zk_cells.specs.Kernels.{Shared, IsMadeFor};
 
     ghost Value = { Shared };
 

@@ -1,7 +1,7 @@
 use Rattle.std.proofs.Common.{◌≡◌, length, Option, List, map, All, ap, sym, subst, ◌∙◌, arith}
 use Rattle.zk_pool.specs.Counts.{tally}
 use Rattle.zk_pool.specs.Rule.{Suits}
-use Rattle.zk_kernel.specs.Kernels.{Shared}
+use Rattle.zk_cells.specs.Kernels.{Shared}
 use Rattle.zk_cores.specs.declared.seat.Seat.{Seat}
 use Rattle.zk_cores.specs.Seats.{seat_number, seat_kernel, IsSeated}
 use Rattle.zk_cores.proofs.Seated.{as-many, pool-home, one-home, all-seated, once-back}

@@ -1,7 +1,7 @@
 use Rattle.std.proofs.Common.{◌≡◌, ◌+◌, ◌≤◌, ◌++◌, length, map, reverse, All, List, vec_len, vec_capacity}
 use Rattle.zk_kernel.specs.Callers.{IsCaller, place_of}
 use Rattle.zk_kernel.specs.declared.caller.Caller.{Caller}
-use Rattle.zk_kernel.specs.Joined.{AreTogether}
+use Rattle.zk_kernel.specs.Gathered.{AreTogether}
 use Rattle.zk_kernel.proofs.close.gather_all.Given as goal
 
 -- the passes of the callers so far are together, and the others stand in reverse

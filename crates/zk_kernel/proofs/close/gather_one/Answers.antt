@@ -1,9 +1,9 @@
 use Rattle.std.proofs.Common.{Option, sym, subst}
-use Rattle.zk_kernel.specs.declared.cells.Cells.{Cells}
-use Rattle.zk_kernel.specs.declared.passes.Passes.{Passes}
+use Rattle.zk_cells.specs.declared.cells.Cells.{Cells}
+use Rattle.zk_cells.specs.declared.passes.Passes.{Passes}
 use Rattle.zk_kernel.specs.Callers.{IsAtDesk, place_of}
-use Rattle.zk_kernel.specs.Desks.{IsServed}
-use Rattle.zk_kernel.specs.Joined.{AreTogether}
+use Rattle.zk_cells.specs.Desks.{IsServed}
+use Rattle.zk_kernel.specs.Gathered.{AreTogether}
 use Rattle.zk_kernel.proofs.Gathering.{gathered-next}
 use Rattle.zk_kernel.proofs.close.gather_one.Goals as goal
 

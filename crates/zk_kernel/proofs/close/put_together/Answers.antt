@@ -1,10 +1,11 @@
 use Rattle.std.proofs.Common.{◌≡◌, List, [], ◌∷◌, ◌++◌, Option, sym, subst}
 use Rattle.zk_base.specs.declared.ids.Who.{Who}
 use Rattle.zk_kernel.specs.declared.caller.Caller.{Caller}
-use Rattle.zk_kernel.specs.declared.passes.Passes.{Passes}
+use Rattle.zk_cells.specs.declared.passes.Passes.{Passes}
 use Rattle.zk_kernel.specs.Callers.{place_of}
-use Rattle.zk_kernel.specs.Joined.{AreTogether, AreGathered, players_of, numbers_of, left_at, all_noted, all_found}
-use Rattle.zk_kernel.specs.Signals.{looks_at_number}
+use Rattle.zk_cells.specs.Joined.{numbers_of, left_at}
+use Rattle.zk_kernel.specs.Gathered.{AreTogether, AreGathered, players_of, all_noted, all_found}
+use Rattle.zk_cells.specs.Signals.{looks_at_number}
 use Rattle.zk_kernel.proofs.Gathering.{served_for, own-noted, first_together, more_together}
 use Rattle.zk_kernel.proofs.close.put_together.Goals as goal
 

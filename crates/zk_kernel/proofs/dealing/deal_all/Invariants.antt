@@ -1,8 +1,9 @@
 use Rattle.std.proofs.Common.{◌≡◌, ◌+◌, ◌≤◌, ◌++◌, map, reverse, All, vec_len, vec_capacity}
-use Rattle.zk_kernel.specs.declared.cells.Cells.{Cells}
+use Rattle.zk_cells.specs.declared.cells.Cells.{Cells}
 use Rattle.zk_kernel.specs.Callers.{place_of}
-use Rattle.zk_kernel.specs.Dealt.{AreUndealt, IsUnplayed}
-use Rattle.zk_kernel.specs.Joined.{whos}
+use Rattle.zk_cells.specs.Dealt.{AreUndealt}
+use Rattle.zk_kernel.specs.Opened.{IsUnplayed}
+use Rattle.zk_cells.specs.Joined.{whos}
 use Rattle.zk_kernel.proofs.dealing.deal_all.Given as goal
 
 -- the callers so far are those of the last players, the last of them first

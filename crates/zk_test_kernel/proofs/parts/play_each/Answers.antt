@@ -15,7 +15,8 @@ use Rattle.zk_kernel.specs.declared.caller.Caller.{Caller}
 use Rattle.zk_kernel.specs.Callers.{IsCaller, place_of}
 use Rattle.zk_kernel.specs.Rests.{AreAllCallers}
 use Rattle.zk_kernel.proofs.Crossing.{caller_send, kernel_sync, ref_sync, closure_of_three}
-use Rattle.zk_kernel.proofs.Whole.{IsAfter, all-still, written-back}
+use Rattle.zk_kernel.proofs.Whole.{IsAfter, all-still}
+use Rattle.zk_cells.proofs.Slices.{written-back}
 use Rattle.zk_test_kernel.proofs.parts.play_each.Lts as lts
 use Rattle.zk_test_kernel.proofs.parts.play_each.Goals as goal
 

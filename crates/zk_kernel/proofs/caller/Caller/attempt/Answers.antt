@@ -10,11 +10,11 @@ use Rattle.zk_worker.proofs.CheckedSteps.{after-spots}
 use Rattle.zk_worker.proofs.Ranges.{ahead-takes}
 use Rattle.zk_worker.proofs.Trying.{attempted-some, attempted-none, attempted-err}
 use Rattle.zk_world.proofs.Players.{player-still, player-made}
-use Rattle.zk_kernel.specs.declared.cells.Cells.{Cells}
-use Rattle.zk_kernel.specs.declared.passes.Passes.{Passes}
+use Rattle.zk_cells.specs.declared.cells.Cells.{Cells}
+use Rattle.zk_cells.specs.declared.passes.Passes.{Passes}
 use Rattle.zk_kernel.specs.Callers.{IsAtDesk}
-use Rattle.zk_kernel.specs.Desks.{cells_machines, IsServed, desk_shown}
-use Rattle.zk_kernel.proofs.Attempts.{memory-told}
+use Rattle.zk_cells.specs.Desks.{cells_machines, IsServed, desk_shown}
+use Rattle.zk_cells.proofs.Attempts.{memory-told}
 use Rattle.zk_kernel.proofs.Callers.{playing-on}
 use Rattle.zk_kernel.proofs.caller.Caller.attempt.Goals as goal
 

@@ -4,9 +4,9 @@ use Rattle.zk_base.specs.declared.ids.Who.{Who}
 use Rattle.zk_scenario.specs.Content.{Content}
 use Rattle.zk_worker.specs.Machines.{Machines, machines_of}
 use Rattle.zk_worker.specs.Playing.{StepOutcome}
-use Rattle.zk_kernel.specs.declared.cells.Cells.{Cells}
-use Rattle.zk_kernel.specs.declared.passes.Passes.{Passes}
-use Rattle.zk_kernel.specs.Desks.{cells_machines, IsServed, desk_shown, desk_counts}
+use Rattle.zk_cells.specs.declared.cells.Cells.{Cells}
+use Rattle.zk_cells.specs.declared.passes.Passes.{Passes}
+use Rattle.zk_cells.specs.Desks.{cells_machines, IsServed, desk_shown, desk_counts}
 use Rattle.zk_kernel.specs.Callers.{IsAtDesk, shown_by, counts_by}
 use Rattle.zk_kernel.proofs.Callers.{same-who, still-sound}
 use Rattle.zk_kernel.proofs.caller.Caller.step.Goals as goal

@@ -12,14 +12,15 @@ use Rattle.zk_world.specs.Legal.{IsLegalShown}
 use Rattle.zk_world.specs.Sound.{IsSound}
 use Rattle.zk_world.specs.Within.{AreWithin}
 use Rattle.zk_world.specs.World.{world}
-use Rattle.zk_kernel.specs.declared.cells.Cells.{Cells}
-use Rattle.zk_kernel.specs.declared.notes.Note.{Note}
+use Rattle.zk_cells.specs.declared.cells.Cells.{Cells}
+use Rattle.zk_cells.specs.declared.notes.Note.{Note}
 use Rattle.zk_kernel.specs.Callers.{place_of, shown_to}
-use Rattle.zk_kernel.specs.Closed.{AllBy, ArePlayed, ended}
-use Rattle.zk_kernel.specs.Desks.{cells_machines, desk_shown}
-use Rattle.zk_kernel.specs.Joined.{all_found, players_of, whos}
-use Rattle.zk_kernel.specs.Lasting.{Closes}
-use Rattle.zk_kernel.specs.Notes.{writes_at}
+use Rattle.zk_cells.specs.Closed.{AllBy, ArePlayed, ended}
+use Rattle.zk_cells.specs.Desks.{cells_machines, desk_shown}
+use Rattle.zk_cells.specs.Joined.{whos}
+use Rattle.zk_kernel.specs.Gathered.{all_found, players_of}
+use Rattle.zk_cells.specs.Lasting.{Closes}
+use Rattle.zk_cells.specs.Notes.{writes_at}
 use Rattle.zk_kernel.specs.Rests.{Left}
 use Rattle.zk_kernel.proofs.Leaving.{left-sound, many-players, numbered, stands-all, steps-all, noted-by, for-all, shared-all, whole-all, all-close, all-sound}
 use Rattle.zk_kernel.proofs.kernel.Kernel.close.Goals as goal

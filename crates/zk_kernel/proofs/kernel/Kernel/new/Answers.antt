@@ -2,9 +2,9 @@ use Rattle.std.proofs.Common.{◌<◌, List, length, refl, sym, ap, subst, ◌�
 use Rattle.zk_base.specs.declared.ids.Who.{Who}
 use Rattle.zk_scenario.specs.Content.{Content}
 use Rattle.zk_scenario.specs.Players.{players}
-use Rattle.zk_kernel.specs.Dealt.{AreUndealt}
-use Rattle.zk_kernel.specs.Joined.{whos}
-use Rattle.zk_kernel.specs.Kernels.{Shared}
+use Rattle.zk_cells.specs.Dealt.{AreUndealt}
+use Rattle.zk_cells.specs.Joined.{whos}
+use Rattle.zk_cells.specs.Kernels.{Shared}
 use Rattle.zk_kernel.specs.Opened.{AreNewCallers}
 use Rattle.zk_kernel.proofs.NewCallers.{unused-all, whos-differ, whos-few, made-for, callers-new}
 use Rattle.zk_kernel.proofs.kernel.Kernel.new.Goals as goal

@@ -1,0 +1,12 @@
+pub mod Closed
+pub mod Dealt
+pub mod Desks
+pub mod Joined
+pub mod Kernels
+pub mod Lasting
+pub mod Memory
+pub mod Notes
+pub mod Quick
+pub mod Rows
+pub mod Signals
+pub use Rattle.zk_visit.specs.Seats

@@ -1,6 +1,0 @@
-use Rattle.zk_base.specs.Legal.{IsLegal}
-use Rattle.zk_kernel.proofs.Unpacking.{CameOutSoFar}
-use Rattle.zk_kernel.proofs.emptying.empty_rows.Given as goal
-
-abbrev pub invariant-loop-index : goal.invariant-loop-index
-invariant-loop-index g l = CameOutSoFar (IsLegal g.S.Service.machine) g.S.Service.start g.S.Service.history l.index l.fn.cells.items l.fn.passes.items l.cells.items l.passes.items l.services.items

@@ -1,5 +1,0 @@
-use Rattle.zk_kernel.proofs.Sharing.{AreSigJoined}
-use Rattle.zk_kernel.proofs.joining.join_signals.Given as goal
-
-abbrev pub invariant-loop-index : goal.invariant-loop-index
-invariant-loop-index l = AreSigJoined l.index l.signals l.fn.into.items l.fn.other.items l.into.items l.other.items

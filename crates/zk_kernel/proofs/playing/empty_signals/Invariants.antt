@@ -1,6 +1,0 @@
-use Rattle.zk_kernel.specs.Notes.{writes_at}
-use Rattle.zk_kernel.proofs.PlayedSignals.{PlayedSoFar}
-use Rattle.zk_kernel.proofs.playing.empty_signals.Given as goal
-
-abbrev pub invariant-loop-index : goal.invariant-loop-index
-invariant-loop-index l = PlayedSoFar (writes_at l.notes) l.index l.fn.signals.items l.fn.passes.items l.signals.items l.passes.items l.services.items
