@@ -6,6 +6,7 @@ pub mod Delays
 pub mod Dones
 pub mod Drains
 pub mod Entries
+pub mod FlagWord
 pub mod Found
 pub mod Lines
 pub mod Lives

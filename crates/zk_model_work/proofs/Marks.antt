@@ -158,7 +158,7 @@ marks-are : (start : State) (h : WorkHistory) → IsFreshHistory start h →
 marks-are start h fresh = marks-after start h ∙ ap (λ (ms : List ℕ). ms ++ found_in start h) fresh.marks
 
 -- the admission of a number that passes
-passes-there : (p : Admission → Bool) (xs : List Admission) (n : ℕ) → passes_at p xs n ≡ true →
+pub passes-there : (p : Admission → Bool) (xs : List Admission) (n : ℕ) → passes_at p xs n ≡ true →
     (a : Admission) × (slice_get xs n ≡ Some a) × (p a ≡ true)
 passes-there p xs n is = by (slice_get xs n) refl is where
   by : (o : Option Admission) → slice_get xs n ≡ o → option_map_or p o false ≡ true →

@@ -166,6 +166,20 @@ pub record IsBeingCancelled (start : State) (h : WorkHistory) (item : ℕ) : Typ
   pub found : running_after start before item ≡ Some run
   pub runs : life_after start h run ≡ Some Running
 
+-- the reply tells the player to wait for this admission
+abbrev pub awaits : ℕ → WorkReply → Bool
+awaits number (WaitFor other) = number == other
+awaits number reply = false
+
+-- an earlier flush was told to wait for an admission of the item that waits or runs still: the item is being flushed
+pub record IsBeingFlushed (start : State) (h : WorkHistory) (item : ℕ) : Type 0 where
+  pub number : ℕ
+  pub a : Admission
+  pub told : list_any (λ e. awaits number e.reply) h ≡ true
+  pub there : admission_after start h number ≡ Some a
+  pub same : a.item ≡ item
+  pub goes_on : is_open a.life ≡ true
+
 -- the queue that runs the item, else the named one, else that of its last admission
 abbrev pub target_of : State → ℕ → Option ℕ → Option ℕ
 target_of s item named = option_or (running_queue s.admissions item) (option_or named (last_queue s.admissions item))
@@ -222,11 +236,6 @@ abbrev pub told_number : Submitted → Option ℕ
 told_number (submitteds.Fresh number queue) = Some number
 told_number (submitteds.Rerun number queue) = Some number
 told_number answer = None
-
--- the reply tells the player to wait for this admission
-abbrev pub awaits : ℕ → WorkReply → Bool
-awaits number (WaitFor other) = number == other
-awaits number reply = false
 
 -- the flags that a cancel tells: none where the item doesn't run; else that it runs and is being cancelled, and whether a
 -- flush awaits that run

@@ -17,8 +17,9 @@ use Rattle.zk_model_work.specs.declared.parts.Arm.{Arm}
 use Rattle.zk_model_work.specs.declared.parts.Queue.{Queue}
 use Rattle.zk_model_work.specs.Questions.{is_waiting, is_open, is_live, is_empty_and_idle, waiting, running, armed}
 use Rattle.zk_model_work.specs.State.{State}
+use Rattle.zk_model_work.specs.Machine.{flags_of}
 use Rattle.zk_model_work.specs.Answers.{drained_of}
-use Rattle.zk_model_work.specs.Histories.{AreToldInOrder, WorkEntry, WorkHistory, after, AtEach, hands_out, begins, ends, Cancels, cancels, disarms, submitter, announces, admission_after, life_after, made_after, Makes, IsNewest, NoneIsOpen, running_after, queue_after, rests_after, drained_after, arm_after, time_after, IsBeingCancelled, target_of, queue_refuses, IsArmedFor, Named, IsSubmission, AnswerHolds, told_number, cancel_flags, is_done_of, done_for, has_to_wait, IsCause, IsPending, HasStart, HasCome, ticks_of, starts, drains, is_worked_by, plug_after, asked_arm, is_armed, fits, MayGoOn, is_awaited}
+use Rattle.zk_model_work.specs.Histories.{AreToldInOrder, WorkEntry, WorkHistory, after, AtEach, hands_out, begins, ends, Cancels, cancels, disarms, submitter, announces, admission_after, life_after, made_after, Makes, IsNewest, NoneIsOpen, running_after, queue_after, rests_after, drained_after, arm_after, time_after, IsBeingCancelled, IsBeingFlushed, target_of, queue_refuses, IsArmedFor, Named, IsSubmission, AnswerHolds, told_number, cancel_flags, is_done_of, done_for, has_to_wait, IsCause, IsPending, HasStart, HasCome, ticks_of, starts, drains, is_worked_by, plug_after, asked_arm, is_armed, fits, MayGoOn, is_awaited}
 
 -- Each of what follows is said of one history.
 
@@ -485,6 +486,31 @@ pub record GoesOn (start : State) (h : WorkHistory) : Type 0 where
   pub first : DoneHasItsStart start h
   pub fits : AnswersFit start h
 
+-- The flag word.
+
+-- the test is true just where the fact holds
+abbrev pub Tells : Bool → Type 0 → Type 0
+Tells test Fact = (test ≡ true → Fact) × (Fact → test ≡ true)
+
+-- what a flag adds to the word where it is set
+abbrev pub flag : ℕ → Bool → ℕ
+flag weight set = if set then weight else 0
+
+-- what the flag word of an item says: 1 where the item runs, 2 where it is being cancelled, 4 where one of it waits, 8 where it
+-- has a live arm, 16 where it is being flushed
+pub record FlagsTell (start : State) (h : WorkHistory) (item flags : ℕ) : Type 0 where
+  pub cancelled : Bool
+  pub while_cancelled : Tells cancelled (IsBeingCancelled start h item)
+  pub flushed : Bool
+  pub while_flushed : Tells flushed (IsBeingFlushed start h item)
+  pub word : flags ≡ flag 1 (is_some (running_after start h item)) + flag 2 cancelled
+      + flag 4 (is_some (waiting (after start h).admissions item))
+      + flag 8 (is_some (armed (after start h).arms item)) + flag 16 flushed
+
+-- the flag word of each item says so after each history
+abbrev pub FlagsShow : State → WorkHistory → Type 0
+FlagsShow start h = (item : ℕ) → FlagsTell start h item (flags_of (after start h) item)
+
 -- all of it
 pub record KeepsLaws (start : State) (h : WorkHistory) : Type 0 where
   pub once : RunsOnce start h
@@ -496,3 +522,4 @@ pub record KeepsLaws (start : State) (h : WorkHistory) : Type 0 where
   pub drains : DrainsHold start h
   pub delays : DelaysHold start h
   pub goes_on : GoesOn start h
+  pub flags : FlagsShow start h

@@ -1,5 +1,5 @@
 ghost use Rattle.zk_model_work.specs.Histories.{OfEach};
-ghost use Rattle.zk_model_work.specs.Laws.{RunsOnce, BeginsInOrder, NeverOverlaps, SubmissionsHold, CancelsHold, FlushesHold, DrainsHold, DelaysHold, GoesOn, KeepsLaws};
+ghost use Rattle.zk_model_work.specs.Laws.{RunsOnce, BeginsInOrder, NeverOverlaps, SubmissionsHold, CancelsHold, FlushesHold, DrainsHold, DelaysHold, GoesOn, FlagsShow, KeepsLaws};
 
 /// Of every legal work history: what has become of an admission stays so. It is begun by a begin on
 /// its queue, which finds it waiting; at most once, and one that was dropped never.
@@ -64,6 +64,12 @@ pub fn goes_on()
     ensures { OfEach GoesOn }
 {}
 
+/// Of every legal work history: the flag word of an item, which a look at it shows, says whether the item runs, is being
+/// cancelled, waits, has a live arm and is being flushed.
+pub fn flags_show()
+    ensures { OfEach FlagsShow }
+{}
+
 /// All of it, of every legal work history. It does nothing when it runs.
 pub fn keeps_laws()
     ensures { OfEach KeepsLaws }
@@ -77,4 +83,5 @@ pub fn keeps_laws()
     drains_hold();
     delays_hold();
     goes_on();
+    flags_show();
 }

@@ -22,8 +22,8 @@ pub use changes::{
 };
 pub use growth::{arm, fresh_queues, hurry, mark, put_wait, submit, submit_arms};
 pub use laws::{
-    begins_in_order, cancels_hold, delays_hold, drains_hold, flushes_hold, goes_on, keeps_laws,
-    never_overlaps, runs_once, submissions_hold,
+    begins_in_order, cancels_hold, delays_hold, drains_hold, flags_show, flushes_hold, goes_on,
+    keeps_laws, never_overlaps, runs_once, submissions_hold,
 };
 pub use ops::{Expiries, Expiry, Submitted, WorkOp, WorkReply};
 pub use parts::{Admission, Arm, Awaited, Change, Closing, Fate, Item, Life, Queue, Wait};

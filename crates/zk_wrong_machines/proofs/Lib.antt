@@ -4,3 +4,4 @@ pub mod MessageQueues
 pub mod SignalsAndClock
 pub mod Zbus
 pub mod WorkQueues
+pub mod FlagWords

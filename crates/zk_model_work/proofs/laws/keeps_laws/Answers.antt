@@ -11,4 +11,5 @@ returns c = λ start h fresh. record {
   drains = c.drains_hold.ensures start h fresh;
   delays = c.delays_hold.ensures start h fresh;
   goes_on = c.goes_on.ensures start h fresh;
+  flags = c.flags_show.ensures start h fresh;
 }
