@@ -3,6 +3,7 @@ pub mod PollReplies
 pub mod PollPlays
 pub mod PollAnswers
 pub mod PollLaws
+pub mod WrongPolls
 pub mod PollTells
 pub mod PollLogs
 pub mod PollServed
