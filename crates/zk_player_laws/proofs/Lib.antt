@@ -29,3 +29,4 @@ pub mod Visits
 pub mod ScriptsPlayed
 pub mod CallsGoOn
 pub mod CallsAttempted
+pub mod WrongCalls

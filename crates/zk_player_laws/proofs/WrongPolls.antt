@@ -1,6 +1,5 @@
 -- What the laws of polls refuse: attempts of a poll that waits, and a step that lets time pass.
-use Rattle.std.proofs.Common.{◌≡◌, ℕ, true, false, Some, List, [], ◌∷◌, ◌++◌, refl, ap, ◌∙◌, ◌⊎◌, ⊎_elim}
-use Rattle.zk_base.specs.declared.seen.Seen.{Seen}
+use Rattle.std.proofs.Common.{◌≡◌, ℕ, true, false, Some, List, [], ◌∷◌, ◌++◌, refl, ap, ◌∙◌, ⊎_elim}
 use Rattle.zk_line.specs.declared.types.Ref.{Ref}
 use Rattle.zk_line.specs.declared.events.Event.{Event}
 use Rattle.zk_line.specs.declared.events.Event.TheVariants.{Sem, Sig}
@@ -16,7 +15,7 @@ use Rattle.zk_worker.specs.declared.steps.StepReply.{StepReply}
 use Rattle.zk_worker.specs.declared.steps.StepReply.TheVariants as step_replies
 use Rattle.zk_worker.specs.Follows.{StepMade}
 use Rattle.zk_worker.specs.Refs.{ref_object}
-use Rattle.zk_player_laws.specs.PollLaws.{StandsAt, IsRegistered, IsDue, EachIsForOne, WaitsForAll, end_of}
+use Rattle.zk_player_laws.specs.PollLaws.{IsRegistered, IsDue, EachIsForOne, WaitsForAll, end_of}
 
 -- the look that waits for a signal, and the end of an alarm
 abbrev look : Ref → Step
