@@ -292,7 +292,12 @@ module _ (s : Content) (number : ℕ) (start : PlayerPlace) (front : List StepMa
 
   -- of a player that no check has ended
   attempts-next : Holds s number front now → HasCallsLeft s now.frames → AllStand s number start front now now.frames → AttemptsItsNext s number start front now
-  attempts-next holds left all = record { spent = λ is. ap (λ (b : Bool). cond b own []) (spent-none is); goes_on = λ isnt. subst (ComeTo s number start front now.frames) (sym (ap (λ (b : Bool). cond b own []) (unspent isnt))) (by (check_at s now) refl) } where
+  attempts-next holds left all = record {
+    next = own;
+    comes = by (check_at s now) refl;
+    goes_on = λ isnt. ap (λ (b : Bool). cond b own []) (unspent isnt);
+    spent = λ is. ap (λ (b : Bool). cond b own []) (spent-none is);
+  } where
     own : List Step
     own = checks_first (check_at s now) (frames_attempts s now.frames)
 
@@ -317,7 +322,7 @@ ended-next : (s : Content) (number : ℕ) (start : PlayerPlace) (front : List St
 ended-next s number start front now none dead =
     let nothing : attempts s now ≡ [] = ap (λ (c : Option Check). cond (nat_lt (length now.spots) (steps_of s)) (checks_first c (frames_attempts s now.frames)) []) (ap (λ (mode : Mode). next_check s mode now.passed now.frames) dead)
     ∙ ap (λ (l : List Frame). cond (nat_lt (length now.spots) (steps_of s)) (frames_attempts s l) []) none ∙ either (nat_lt (length now.spots) (steps_of s)) in
-    record { spent = λ is. nothing; goes_on = λ isnt. subst (λ (l : List Frame). ComeTo s number start front l (attempts s now)) (sym none) nothing }
+    record { next = no_steps; comes = subst (λ (l : List Frame). ComeTo s number start front l no_steps) (sym none) refl; goes_on = λ isnt. nothing; spent = λ is. nothing }
   where
     either : (b : Bool) → cond b no_steps no_steps ≡ no_steps
     either true = refl

@@ -3,6 +3,7 @@ pub mod PollReplies
 pub mod PollPlays
 pub mod PollAnswers
 pub mod PollLaws
+pub mod WrongPolls
 pub mod PollTells
 pub mod PollLogs
 pub mod PollServed
@@ -28,3 +29,4 @@ pub mod Visits
 pub mod ScriptsPlayed
 pub mod CallsGoOn
 pub mod CallsAttempted
+pub mod WrongCalls

@@ -199,7 +199,7 @@ alarm-kept timeout events play alarm marks made kept later may none over of =
     (λ told.
     let after : alarm_after alarm made.1 ≡ Ended = due-after alarm of.moment made.1 told in
     subst (λ (o : Option ℕ). KeptFor timeout events play alarm marks (steps.Clock op, made.1) o) (sym (watched-clock 0 (steps.Clock op) events marks (never-clock op)))
-    (kept-clock timeout events play alarm (alarm_after alarm made.1) marks op made.1 kept (or-true (is_ended alarm) ∙ ap is_ended (sym after))
+    (kept-clock timeout events play alarm (alarm_after alarm made.1) marks op made.1 kept refl (or-true (is_ended alarm) ∙ ap is_ended (sym after))
     (record {
       arms = λ arm. absurd (cc);
       asked = λ no_ask sets. all-asked events play marks kept.asked none;

@@ -1,21 +1,22 @@
 -- The laws of a poll, of each of its plays.
-use Rattle.std.proofs.Common.{◌≡◌, ℕ, zero, suc, ◌+◌, ◌<◌, ◌≤◌, Bool, true, false, not, ◌&&◌, ◌||◌, cond, is_some, Option, Some, None, List, [], ◌∷◌, ◌++◌, length, replicate, take, get_or, option_to_list, slice_get, count_by, refl, sym, ap, subst, ◌∙◌, ◌⊎◌, inl, inr, ⊎_elim, append-nil, append_assoc, arith}
+use Rattle.std.proofs.Common.{◌≡◌, ℕ, zero, suc, ◌+◌, ◌<◌, ◌≤◌, Bool, true, false, not, ◌&&◌, ◌||◌, cond, is_some, Option, Some, None, List, [], ◌∷◌, ◌++◌, length, replicate, take, option_to_list, slice_get, count_by, refl, sym, ap, subst, ◌∙◌, ◌⊎◌, inl, inr, ⊎_elim, append-nil, append_assoc, arith}
 use Rattle.std.specs.Option.{option_and_then}
 use Rattle.std.specs.List.{AllZip, Contains, list_any}
 use Rattle.std.proofs.lemmas.Bool.{and_parts, and_from, not-true, not_from_false, not-false, both_ways, or_parts, cond-true, cond-false}
-use Rattle.std.proofs.lemmas.List.{length-append, length_push, nil_from_length}
+use Rattle.std.proofs.lemmas.List.{length-append, nil_from_length}
 use Rattle.std.proofs.lemmas.List.Elements.{All-head}
 use Rattle.std.proofs.lemmas.List.Quantifiers.{position-Some}
-use Rattle.std.proofs.lemmas.Option.{same_Some, slice_get_within, slice_get-get_or, get_or_from_slice_get, some_pair_parts}
+use Rattle.std.proofs.lemmas.Option.{same_Some, slice_get_within, get_or_from_slice_get, some_pair_parts}
 use Rattle.zk_base.proofs.Lists.{All-front, All-back, slice_get-one}
 use Rattle.zk_base.specs.declared.errors.Errno.TheVariants.{Again}
-use Rattle.zk_line.specs.declared.types.Ref.{Ref}
 use Rattle.zk_line.specs.declared.events.Event.{Event}
-use Rattle.zk_line.specs.declared.events.Event.TheVariants.{Sig}
+use Rattle.zk_line.specs.declared.events.Event.TheVariants.{Ignore, Sem, Msgq, Sig}
 use Rattle.zk_line.specs.declared.events.TheConstants.{MOST_EVENTS}
-use Rattle.zk_line.proofs.Lists.{count_by-cons, slice_get-append_left, slice_get-push}
+use Rattle.zk_line.proofs.Lists.{count_by-cons}
 use Rattle.zk_model_wait.specs.declared.clock.ClockOp.TheVariants as clock_ops
 use Rattle.zk_model_wait.specs.declared.clock.ClockReply.TheVariants as clock_replies
+use Rattle.zk_model_wait.specs.declared.msgq.MsgqOp.TheVariants as msgq_ops
+use Rattle.zk_model_wait.specs.declared.sem.SemOp.TheVariants as sem_ops
 use Rattle.zk_words.specs.declared.timeout.Timeout.{Timeout}
 use Rattle.zk_words.specs.declared.timeout.Timeout.TheVariants.{No, Ticks, Forever}
 use Rattle.zk_words.specs.declared.word.Word.{Word}
@@ -30,17 +31,18 @@ use Rattle.zk_worker.specs.declared.frames.Stage.TheVariants.{Start, Polls}
 use Rattle.zk_worker.specs.declared.frames.Progress.{Progress}
 use Rattle.zk_worker.specs.declared.frames.Progress.TheVariants.{Goes, Answers}
 use Rattle.zk_worker.specs.declared.steps.Spot.{Spot}
+use Rattle.zk_worker.specs.declared.steps.Spot.TheVariants as spots
 use Rattle.zk_worker.specs.declared.steps.Step.{Step}
 use Rattle.zk_worker.specs.declared.steps.Step.TheVariants as steps
 use Rattle.zk_worker.specs.declared.steps.StepReply.{StepReply}
 use Rattle.zk_worker.specs.declared.steps.StepReply.TheVariants as step_replies
-use Rattle.zk_worker.specs.Polls.{waits, fresh, is_armed, is_ready, asks_more, unasked_from, ask_step, drop_step, step_at, asking, dropping, watching, alarm_steps, registers, poll_attempts, is_closing, polling, mark_of, event_of, marked, alarm_after, ready_from, poll_answer, is_answered, poll_goes, polled, poll_progress}
-use Rattle.zk_player_laws.specs.PollLaws.{Leads, LeadsOn, StandsAt, AreServed, may_reply, events_from, asks, AreRising, NamesWhatIsTold, AnswersWhatIsTold, IsDone, KeepsPollLaws, OfEachPoll, OfEachStage, GoesOn, WaitsForAll, AsksFor, is_over, is_alarm_end, tells_ready, GivesUpFirst, endings, IsRegistered, WaitsFor, end_of}
+use Rattle.zk_worker.specs.Polls.{waits, fresh, is_armed, is_ready, asks_more, unasked_from, ask_step, drop_step, step_at, asking, dropping, watch_step, watching, alarm_steps, registers, poll_attempts, is_closing, polling, mark_of, event_of, marked, alarm_after, ready_from, poll_answer, is_answered, poll_goes, polled, poll_progress}
+use Rattle.zk_player_laws.specs.PollLaws.{Leads, LeadsOn, StandsAt, AreServed, may_reply, events_from, asks, AreRising, NamesWhatIsTold, AnswersWhatIsTold, IsDone, KeepsPollLaws, OfEachPoll, OfEachStage, GoesOn, WaitsForEvent, WaitsForAlarm, WaitsForEach, WaitsForAll, AsksFor, is_over, is_alarm_end, tells_ready, GivesUpFirst, endings, IsRegistered, IsDue}
 use Rattle.zk_worker.specs.Follows.{StepMade}
 use Rattle.zk_worker.specs.Refs.{ref_object}
 use Rattle.zk_worker.proofs.PollSteps.{all_taken}
 use Rattle.zk_player_laws.proofs.PollReplies.{asks-for, stands-attempts, spot_for-armed}
-use Rattle.zk_player_laws.proofs.PollMarks.{WatchAt, watching-order, Standing, standing-counts, AsksNext, asks_first, known-at, first_armed, watching-has, to_ask, none_to_ask, no_unasked, to_ask-fresh, spot_for, spot_for-unasked, standing, standing-fresh, standing-none, known-fresh, known-none}
+use Rattle.zk_player_laws.proofs.PollMarks.{Standing, standing-counts, AsksNext, asks_first, known-at, first_armed, to_ask, none_to_ask, no_unasked, to_ask-fresh, spot_for, spot_for-unasked, standing, standing-fresh, standing-none, known-fresh, known-none}
 use Rattle.zk_player_laws.proofs.PollPlays.{Apart, apart-front, Kept, kept-clock, zip-length, Named, slice_get-here, stands-cases}
 use Rattle.zk_player_laws.proofs.PollAnswers.{Later, over-is, all-asked, polling-kept}
 
@@ -120,7 +122,7 @@ ticks-next word ticks events made progress few may is comes = by made.0 made.1 i
   then moment place comes = record {
     alarm = Due moment;
     marks = fresh;
-    kept = kept-clock (Ticks ticks) events [] Unset (Due moment) fresh (clock_ops.Alarm ticks) (step_replies.Clock (clock_replies.At moment) place) (kept-fresh (Ticks ticks) events few) refl
+    kept = kept-clock (Ticks ticks) events [] Unset (Due moment) fresh (clock_ops.Alarm ticks) (step_replies.Clock (clock_replies.At moment) place) (kept-fresh (Ticks ticks) events few) refl refl
         (record { arms = λ arm. absurd (cc); asked = λ no_ask sets. absurd (cc); waiting = λ wait. absurd (cc); quitting = λ quit. absurd (cc) })
         (record {
           begins = λ n is none. ap (λ (t : Timeout). steps.Clock (clock_ops.Alarm (ticks_of t))) is;
@@ -418,25 +420,66 @@ asks-attempts timeout events play alarm marks k event kept next = by (unasked_fr
       )
 
 -- what waits for an event is the step of its mark
-watches-at : (timeout : Timeout) (events : List Event) (play : List StepMade) (alarm : Alarm) (marks : List Mark) (k : ℕ) (step : Step) → Kept timeout events play alarm marks →
-    length events ≤ MOST_EVENTS → is_over play ≡ false → WaitsFor events play k step → WatchAt events marks k step
-watches-at timeout events play alarm marks k step kept few unended waits = ⊎_elim
-    (λ (by : (spot : Spot) × IsRegistered events play spot k × (end_of spot ≡ Some step)).
-    let at = kept.stands unended k by.0 by.1 in
-    let ends = stands-attempts at.event at.mark by.0 at.is in
-    record { event = at.event; mark = at.mark; there = at.there; marked = at.marked; is = ends.3 ∙ sym ends.2 ∙ by.2 })
-    (λ (by : (signal : Ref) × (slice_get events k ≡ Some (Sig signal)) × (steps.LookSignal (ref_object signal) true ≡ step)).
-    let within = slice_get_within events k (Sig by.0) by.1 in
-    record {
-      event = Sig by.0;
-      mark = get_or marks k Unasked;
-      there = by.1;
-      marked = slice_get-get_or marks k Unasked (omega (arith, within, kept.size));
-      is = ap (λ (s : Step). Some s) by.2;
-    })
-    waits
+event-attempts : (timeout : Timeout) (events : List Event) (play : List StepMade) (alarm : Alarm) (marks : List Mark) (k : ℕ) (event : Event) (mark : Mark) → Kept timeout events play alarm marks →
+    is_over play ≡ false → slice_get events k ≡ Some event → slice_get marks k ≡ Some mark → WaitsForEvent events play k event (option_to_list (watch_step event mark))
+event-attempts timeout events play alarm marks k event mark kept unended = by event mark where
+  none : (e : Event) (m : Mark) → slice_get events k ≡ Some e → slice_get marks k ≡ Some m → spot_for e m ≡ None → (spot : Spot) → IsRegistered events play spot k → ⊥
+  none e m there marked is spot registered =
+      let at = kept.stands unended k spot registered in
+      let so : None ≡ Some spot = sym is ∙ ap (λ (x : Event). spot_for x m) (same_Some e at.event (sym there ∙ at.there))
+      ∙ ap (λ (x : Mark). spot_for at.event x) (same_Some m at.mark (sym marked ∙ at.marked)) ∙ at.is in cc
 
--- a poll that waits attempts all that it waits for
+  by : (e : Event) (m : Mark) → slice_get events k ≡ Some e → slice_get marks k ≡ Some m → WaitsForEvent events play k e (option_to_list (watch_step e m))
+  by (Sem sem) (Armed place) there marked =
+      let spot = spots.Sem (ref_object sem) place in
+      inl (spot, steps.Sem (ref_object sem) (sem_ops.PollEnd place), kept.armed k (Sem sem) (Armed place) spot there marked refl, refl, refl)
+  by (Msgq queue) (Armed place) there marked =
+      let spot = spots.Msgq (ref_object queue) place in
+      inl (spot, steps.Msgq (ref_object queue) (msgq_ops.PollEnd place), kept.armed k (Msgq queue) (Armed place) spot there marked refl, refl, refl)
+  by (Sig signal) m there marked = refl
+  by Ignore m there marked = inr (none Ignore m there marked refl, refl)
+  by (Sem sem) m there marked = inr (none (Sem sem) m there marked refl, refl)
+  by (Msgq queue) m there marked = inr (none (Msgq queue) m there marked refl, refl)
+
+-- what waits for the alarm is its end
+alarm-attempts : (timeout : Timeout) (events : List Event) (play : List StepMade) (alarm : Alarm) (marks : List Mark) → Kept timeout events play alarm marks → is_over play ≡ false →
+    WaitsForAlarm play (alarm_steps alarm)
+alarm-attempts timeout events play alarm marks kept unended = by alarm refl where
+  set : (moment : ℕ) → IsDue play moment → alarm ≡ Due moment
+  set moment due = kept.set_due moment due (or_parts (list_any tells_ready play) (list_any is_alarm_end play) unended).1
+
+  by : (a : Alarm) → alarm ≡ a → WaitsForAlarm play (alarm_steps a)
+  by (Due moment) is = inl (moment, kept.due moment is, refl)
+  by a is = inr (λ moment due. let so : a ≡ Due moment = sym is ∙ set moment due in cc, refl)
+
+-- the marks of these events, from this position on, say of each what waits for it
+abbrev AreAttempts : List Event → List StepMade → ℕ → List Event → List Mark → Type 0
+AreAttempts events play n left marks = (i k : ℕ) (event : Event) (mark : Mark) → k ≡ n + i → slice_get left i ≡ Some event → slice_get marks i ≡ Some mark →
+    WaitsForEvent events play k event (option_to_list (watch_step event mark))
+
+later-attempts : (events : List Event) (play : List StepMade) (n : ℕ) (event : Event) (left : List Event) (mark : Mark) (marks : List Mark) →
+    AreAttempts events play n (event ∷ left) (mark ∷ marks) → AreAttempts events play (n + 1) left marks
+later-attempts events play n event left mark marks each i k e m at there known = each (suc i) k e m (omega (arith, at)) there known
+
+each-attempts : (events : List Event) (play : List StepMade) (last : List Step) (n : ℕ) (left : List Event) (marks : List Mark) → length left ≤ length marks →
+    AreAttempts events play n left marks → WaitsForAlarm play last → WaitsForEach events play (events_from n left) (watching left marks ++ last)
+each-attempts events play last n [] marks long each ends = ends
+each-attempts events play last n (event ∷ left) [] long each ends = absurd (omega (arith, long))
+each-attempts events play last n (event ∷ left) (mark ∷ marks) long each ends =
+    let more : WaitsForEach events play (events_from (n + 1) left) (watching left marks ++ last) =
+    each-attempts events play last (n + 1) left marks (omega (arith, long)) (later-attempts events play n event left mark marks each) ends in
+    by event (each 0 n event mark (omega arith) refl refl) more where
+      by : (e : Event) → WaitsForEvent events play n e (option_to_list (watch_step e mark)) → WaitsForEach events play (events_from (n + 1) left) (watching left marks ++ last) →
+          WaitsForEach events play (events_from n (e ∷ left)) (watching (e ∷ left) (mark ∷ marks) ++ last)
+      by Ignore own more = more
+      by (Sem sem) own more =
+          (option_to_list (watch_step (Sem sem) mark), watching left marks ++ last, append_assoc (option_to_list (watch_step (Sem sem) mark)) (watching left marks) last, own, more)
+      by (Msgq queue) own more =
+          (option_to_list (watch_step (Msgq queue) mark), watching left marks ++ last, append_assoc (option_to_list (watch_step (Msgq queue) mark)) (watching left marks) last, own, more)
+      by (Sig signal) own more =
+          (option_to_list (watch_step (Sig signal) mark), watching left marks ++ last, append_assoc (option_to_list (watch_step (Sig signal) mark)) (watching left marks) last, own, more)
+
+-- a poll that waits attempts just what waits for its events and its alarm
 waits-attempts : (timeout : Timeout) (events : List Event) (play : List StepMade) (alarm : Alarm) (marks : List Mark) → Kept timeout events play alarm marks → length events ≤ MOST_EVENTS →
     length (asks play) ≡ length (events_from 0 events) → is_over play ≡ false → WaitsForAll events play (polling timeout events alarm marks)
 waits-attempts timeout events play alarm marks kept few all unended =
@@ -447,28 +490,11 @@ waits-attempts timeout events play alarm marks kept few all unended =
     (cond (is_closing alarm marks) (option_to_list (dropping events marks)) (watching (take MOST_EVENTS events) marks ++ alarm_steps alarm))) none
     ∙ ap (λ (b : Bool). cond b (option_to_list (dropping events marks)) (watching (take MOST_EVENTS events) marks ++ alarm_steps alarm)) closes
     ∙ ap (λ (es : List Event). watching es marks ++ alarm_steps alarm) (all_taken events few) in
-    subst (λ (attempts : List Step). WaitsForAll events play attempts) (sym stays) (record {
-      all = λ k step waits.
-          let has = watching-has events marks k step (watches-at timeout events play alarm marks k step kept few unended waits) in
-          (has.0, slice_get-append_left (watching events marks) (alarm_steps alarm) has.0 (slice_get_within (watching events marks) has.0 step has.1) ∙ has.1);
-      in_order = λ j k first second below one two.
-          let at = watching-order events marks j k first second below
-          (watches-at timeout events play alarm marks j first kept few unended one) (watches-at timeout events play alarm marks k second kept few unended two) in (
-            at.0,
-            at.1,
-            at.2,
-            slice_get-append_left (watching events marks) (alarm_steps alarm) at.0 (slice_get_within (watching events marks) at.0 first at.3) ∙ at.3,
-            slice_get-append_left (watching events marks) (alarm_steps alarm) at.1 (slice_get_within (watching events marks) at.1 second at.4) ∙ at.4,
-          );
-      alarm = λ moment due.
-          let ends = steps.Clock (clock_ops.AlarmEnd moment) in
-          let set : alarm ≡ Due moment = kept.set_due moment due (or_parts (list_any tells_ready play) (list_any is_alarm_end play) unended).1 in
-          let last : alarm_steps alarm ≡ ends ∷ [] = ap alarm_steps set in (
-            length (watching events marks),
-            sym (ap (λ (xs : List Step). length (watching events marks ++ xs)) last ∙ length_push (watching events marks) ends),
-            ap (λ (xs : List Step). slice_get (watching events marks ++ xs) (length (watching events marks))) last ∙ slice_get-push (watching events marks) ends,
-          );
-    })
+    subst (λ (attempts : List Step). WaitsForAll events play attempts) (sym stays)
+    (each-attempts events play (alarm_steps alarm) 0 events marks (omega (arith, few, kept.size))
+    (λ i k event mark at there marked. event-attempts timeout events play alarm marks k event mark kept unended
+    (ap (λ (x : ℕ). slice_get events x) (omega (arith, at)) ∙ there) (ap (λ (x : ℕ). slice_get marks x) (omega (arith, at)) ∙ marked))
+    (alarm-attempts timeout events play alarm marks kept unended))
 
 -- and one whose waiting is over a step that gives a registration up
 quits-attempts : (timeout : Timeout) (events : List Event) (play : List StepMade) (alarm : Alarm) (marks : List Mark) → Kept timeout events play alarm marks →

@@ -316,57 +316,6 @@ first_armed marks some =
     let at = armed-from 0 marks some in
     (at.0, at.1, position_from-zero is_armed marks ∙ at.2 ∙ ap (λ (k : ℕ). Some k) (omega arith), at.3, at.4)
 
--- the step that waits for the event at a position
-pub record WatchAt (events : List Event) (marks : List Mark) (k : ℕ) (step : Step) : Type 0 where
-  pub event : Event
-  pub mark : Mark
-  pub there : slice_get events k ≡ Some event
-  pub marked : slice_get marks k ≡ Some mark
-  pub is : watch_step event mark ≡ Some step
-
-watch-here : (event : Event) (events : List Event) (mark : Mark) (marks : List Mark) (step : Step) → WatchAt (event ∷ events) (mark ∷ marks) 0 step → watch_step event mark ≡ Some step
-watch-here event events mark marks step at =
-    ap (λ (x : Event). watch_step x mark) (same_Some event at.event at.there) ∙ ap (λ (x : Mark). watch_step at.event x) (same_Some mark at.mark at.marked) ∙ at.is
-
-watch-later : (event : Event) (events : List Event) (mark : Mark) (marks : List Mark) (k : ℕ) (step : Step) → WatchAt (event ∷ events) (mark ∷ marks) (suc k) step → WatchAt events marks k step
-watch-later event events mark marks k step at = record { event = at.event; mark = at.mark; there = at.there; marked = at.marked; is = at.is }
-
--- a poll that waits attempts the step of each event
-pub watching-has : (events : List Event) (marks : List Mark) (k : ℕ) (step : Step) → WatchAt events marks k step → (index : ℕ) × (slice_get (watching events marks) index ≡ Some step)
-watching-has [] marks k step at = let there : None ≡ Some at.event = at.there in absurd (cc)
-watching-has (e ∷ events) [] k step at = let marked : None ≡ Some at.mark = at.marked in absurd (cc)
-watching-has (e ∷ events) (m ∷ marks) zero step at =
-    (0, ap (λ (o : Option Step). slice_get (option_to_list o ++ watching events marks) 0) (watch-here e events m marks step at))
-watching-has (e ∷ events) (m ∷ marks) (suc k) step at =
-    let later = watching-has events marks k step (watch-later e events m marks k step at) in
-    behind (watch_step e m) later.0 later.1 where
-      behind : (o : Option Step) (index : ℕ) → slice_get (watching events marks) index ≡ Some step → (index : ℕ) × (slice_get (option_to_list o ++ watching events marks) index ≡ Some step)
-      behind None index at = (index, at)
-      behind (Some first) index at = (suc index, at)
-
--- in the order of the events
-pub watching-order : (events : List Event) (marks : List Mark) (j k : ℕ) (first second : Step) → j < k → WatchAt events marks j first → WatchAt events marks k second →
-    (i n : ℕ) × (i < n) × (slice_get (watching events marks) i ≡ Some first) × (slice_get (watching events marks) n ≡ Some second)
-watching-order [] marks j k first second below one two = let there : None ≡ Some one.event = one.there in absurd (cc)
-watching-order (e ∷ events) [] j k first second below one two = let marked : None ≡ Some one.mark = one.marked in absurd (cc)
-watching-order (e ∷ events) (m ∷ marks) j zero first second below one two = absurd (omega arith)
-watching-order (e ∷ events) (m ∷ marks) zero (suc k) first second below one two =
-    let same : watch_step e m ≡ Some first = watch-here e events m marks first one in
-    let later = watching-has events marks k second (watch-later e events m marks k second two) in (
-      0,
-      suc later.0,
-      omega arith,
-      ap (λ (o : Option Step). slice_get (option_to_list o ++ watching events marks) 0) same,
-      ap (λ (o : Option Step). slice_get (option_to_list o ++ watching events marks) (suc later.0)) same ∙ later.1,
-    )
-watching-order (e ∷ events) (m ∷ marks) (suc j) (suc k) first second below one two =
-    let later = watching-order events marks j k first second (omega arith) (watch-later e events m marks j first one) (watch-later e events m marks k second two) in
-    behind (watch_step e m) later.0 later.1 later.2 later.3 later.4 where
-      behind : (o : Option Step) (i n : ℕ) → i < n → slice_get (watching events marks) i ≡ Some first → slice_get (watching events marks) n ≡ Some second →
-          (i n : ℕ) × (i < n) × (slice_get (option_to_list o ++ watching events marks) i ≡ Some first) × (slice_get (option_to_list o ++ watching events marks) n ≡ Some second)
-      behind None i n below one two = (i, n, below, one, two)
-      behind (Some step) i n below one two = (suc i, suc n, omega arith, one, two)
-
 -- whether some event is ready, after a new mark of one that isn't
 pub any_ready-set : (marks : List Mark) (i : ℕ) (mark new : Mark) → slice_get marks i ≡ Some mark → is_ready mark ≡ false →
     list_any is_ready (set marks i new) ≡ (is_ready new || list_any is_ready marks)

@@ -27,11 +27,11 @@ use Rattle.zk_worker.specs.declared.steps.Step.TheVariants as steps
 use Rattle.zk_worker.specs.declared.steps.StepReply.{StepReply}
 use Rattle.zk_worker.specs.declared.steps.StepReply.TheVariants as step_replies
 use Rattle.zk_worker.specs.Polls.{is_ready, is_ended, mark_of, marked, alarm_after}
-use Rattle.zk_player_laws.specs.PollLaws.{StandsAt, may_reply, registered_at, ended_at, is_ask, is_of_clock, is_alarm_end, tells_ready, names, events_from, asks, registrations, endings, IsAskFor, IsRegistered, IsFor, PollIsTold, IsForOne, EachIsForOne, IsInTime, EachIsInTime, is_over, IsDue, IsAlarmed, KeepsItsAlarm}
+use Rattle.zk_player_laws.specs.PollLaws.{StandsAt, may_reply, registered_at, ended_at, is_ask, is_of_alarm, is_alarm_end, tells_ready, names, events_from, asks, registrations, endings, IsAskFor, IsRegistered, IsFor, PollIsTold, IsForOne, EachIsForOne, IsInTime, EachIsInTime, is_over, IsDue, IsAlarmed, KeepsItsAlarm}
 use Rattle.zk_worker.specs.Follows.{StepMade}
 use Rattle.zk_worker.proofs.Lists.{zip-push}
 use Rattle.zk_player_laws.proofs.PollMarks.{count-append, is_unasked, to_ask, AsksNext, spot_for, standing, Standing, AreKnown, known-set, standing-set, any_ready-set}
-use Rattle.zk_player_laws.proofs.PollReplies.{Marks, OfClock, of-clock, free-no_end, registered-for, ask-for, ended-tells, registered-asks}
+use Rattle.zk_player_laws.proofs.PollReplies.{is_of_clock, Marks, OfClock, of-clock, free-no_end, registered-for, ask-for, ended-tells, registered-asks}
 
 -- no two steps have registered at one place
 abbrev pub Apart : List StepMade → Type 0
@@ -384,10 +384,10 @@ kept-marked timeout events play alarm marks made k event mark kept apart there m
 
 -- a step of the clock leaves the marks
 pub kept-clock : (timeout : Timeout) (events : List Event) (play : List StepMade) (alarm new : Alarm) (marks : List Mark) (op : ClockOp) (reply : StepReply) → Kept timeout events play alarm marks →
-    (is_ended alarm || is_alarm_end (steps.Clock op, reply)) ≡ is_ended new → IsInTime timeout events play (steps.Clock op, reply) → IsAlarmed timeout play (steps.Clock op, reply) →
+    is_of_alarm (steps.Clock op, reply) ≡ true → (is_ended alarm || is_alarm_end (steps.Clock op, reply)) ≡ is_ended new → IsInTime timeout events play (steps.Clock op, reply) → IsAlarmed timeout play (steps.Clock op, reply) →
     ((moment : ℕ) → new ≡ Due moment → IsDue (play ++ (steps.Clock op, reply) ∷ []) moment) →
     ((moment : ℕ) → IsDue (play ++ (steps.Clock op, reply) ∷ []) moment → list_any is_alarm_end (play ++ (steps.Clock op, reply) ∷ []) ≡ false → new ≡ Due moment) → Kept timeout events (play ++ (steps.Clock op, reply) ∷ []) new marks
-kept-clock timeout events play alarm new marks op reply kept ends time alarmed due set_due =
+kept-clock timeout events play alarm new marks op reply kept ours ends time alarmed due set_due =
     let made : StepMade = (steps.Clock op, reply) in
     let says : OfClock made = of-clock op reply in
     record {
@@ -406,7 +406,7 @@ kept-clock timeout events play alarm new marks op reply kept ends time alarmed d
           omega (arith, one, two, six);
       each = λ before x stands free. ⊎_elim
           (λ (at : StandsAt play before x). kept.each before x at free)
-          (λ (last : (before ≡ play) × (x ≡ made)). absurd (both_ways (is_of_clock made) (ap is_of_clock (sym last.1) ∙ free) refl))
+          (λ (last : (before ≡ play) × (x ≡ made)). absurd (both_ways (is_of_alarm made) (ap is_of_alarm (sym last.1) ∙ free) ours))
           (stands-cases play made before x stands.rest stands.whole);
       tells = list_any-append tells_ready play (made ∷ []) ∙ or-false (list_any tells_ready play) ∙ kept.tells;
       ended = list_any-append is_alarm_end play (made ∷ []) ∙ ap (λ (b : Bool). list_any is_alarm_end play || b) (or-false (is_alarm_end made))

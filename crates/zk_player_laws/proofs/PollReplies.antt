@@ -21,10 +21,15 @@ use Rattle.zk_worker.specs.declared.steps.Step.TheVariants as steps
 use Rattle.zk_worker.specs.declared.steps.StepReply.{StepReply}
 use Rattle.zk_worker.specs.declared.steps.StepReply.TheVariants as step_replies
 use Rattle.zk_worker.specs.Polls.{is_to_ask, is_armed, is_ready, ask_step, watch_step, drop_step, is_watch, mark_of, alarm_after}
-use Rattle.zk_player_laws.specs.PollLaws.{may_reply, registered_at, ended_at, is_ask, is_arm, asks_to_wait, is_wait, is_quit, is_of_clock, is_alarm_end, tells_ready, names, IsAskFor, IsRegistered, IsFor, AsksFor, end_of, quit_of}
+use Rattle.zk_player_laws.specs.PollLaws.{may_reply, registered_at, ended_at, is_ask, is_arm, asks_to_wait, is_wait, is_quit, is_alarm_end, tells_ready, names, IsAskFor, IsRegistered, IsFor, AsksFor, end_of, quit_of}
 use Rattle.zk_worker.specs.Follows.{StepMade}
 use Rattle.zk_worker.specs.Refs.{ref_object}
 use Rattle.zk_player_laws.proofs.PollMarks.{is_unasked, spot_for}
+
+-- a step of the clock
+abbrev pub is_of_clock : StepMade → Bool
+is_of_clock (steps.Clock op, reply) = true
+is_of_clock made = false
 
 -- what a step for an event that is marked so says with its reply
 pub record Marks (event : Event) (mark : Mark) (made : StepMade) : Type 0 where

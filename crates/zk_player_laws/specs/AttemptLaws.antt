@@ -148,11 +148,13 @@ ComeTo s number start front [] next = next ≡ []
 ComeTo s number start front (frame ∷ below) next =
     ComeToRole s number start front frame.role frame.next below (length (frame ∷ below)) next
 
--- behind these steps, from its start on, a player attempts just what comes next, in that order; once it has made all its steps
--- it attempts nothing
+-- behind these steps, from its start on, this comes next of what is open, whether or not the player may make a step more; it
+-- attempts just that, in that order, and once it has made all its steps nothing
 pub record AttemptsItsNext (s : Content) (number : ℕ) (start : PlayerPlace) (front : List StepMade) (at : PlayerPlace) : Type 0 where
+  pub next : List Step
+  pub comes : ComeTo s number start front at.frames next
+  pub goes_on : is_spent_at s at ≡ false → attempts s at ≡ next
   pub spent : is_spent_at s at ≡ true → attempts s at ≡ []
-  pub goes_on : is_spent_at s at ≡ false → ComeTo s number start front at.frames (attempts s at)
 
 -- so it does before each of these steps, which go on from a place of the player, and behind the last
 abbrev pub AlwaysGoesOn : Content → ℕ → PlayerPlace → List StepMade → PlayerPlace → List StepMade → Type 0

@@ -1,7 +1,6 @@
 use Rattle.std.specs.Prelude.{◌≡◌, ℕ, ◌+◌, ◌<◌, ◌≤◌, ◌⊎◌, Bool, true, false, not, ◌&&◌, ◌||◌, ◌==◌, count_by, Option, Some, None, List, [], ◌∷◌, ◌++◌, length, slice_get, All}
 use Rattle.std.specs.List.{AllZip, Contains, filter, filter_map, list_any, position}
 use Rattle.zk_base.specs.declared.errors.Errno.TheVariants.{Again}
-use Rattle.zk_line.specs.declared.types.Ref.{Ref}
 use Rattle.zk_line.specs.declared.events.Event.{Event}
 use Rattle.zk_line.specs.declared.events.Event.TheVariants.{Ignore, Sem, Msgq, Sig}
 use Rattle.zk_line.specs.declared.events.TheConstants.{MOST_EVENTS}
@@ -151,11 +150,6 @@ is_quit (steps.Sem object (sem_ops.PollQuit place), reply) = true
 is_quit (steps.Msgq object (msgq_ops.PollQuit place), reply) = true
 is_quit made = false
 
--- a step of the clock
-abbrev pub is_of_clock : StepMade → Bool
-is_of_clock (steps.Clock op, reply) = true
-is_of_clock made = false
-
 -- a step that sets an alarm
 abbrev pub sets_alarm : StepMade → Bool
 sets_alarm (steps.Clock (clock_ops.Alarm ticks), reply) = true
@@ -165,6 +159,10 @@ sets_alarm made = false
 abbrev pub is_alarm_end : StepMade → Bool
 is_alarm_end (steps.Clock (clock_ops.AlarmEnd moment), reply) = true
 is_alarm_end made = false
+
+-- a step of the alarm: it sets it, or is its end
+abbrev pub is_of_alarm : StepMade → Bool
+is_of_alarm made = sets_alarm made || is_alarm_end made
 
 -- a step tells that an event is ready: it was when it was asked, or its caller was noted, or a look found the signal raised
 abbrev pub tells_ready : StepMade → Bool
@@ -277,10 +275,10 @@ pub record IsForOne (events : List Event) (before : List StepMade) (made : StepM
   pub there : slice_get events place ≡ Some event
   pub named : names event made ≡ true
 
--- each step but those of the clock is for just one event
+-- each step but one that sets an alarm or ends it is for just one event; so no other step of the clock comes
 abbrev pub EachIsForOne : List Event → List StepMade → Type 0
 EachIsForOne events play = (before : List StepMade) (made : StepMade) → StandsAt play before made →
-    is_of_clock made ≡ false → IsForOne events before made
+    is_of_alarm made ≡ false → IsForOne events before made
 
 -- the waiting is over: some event was told to be ready, or the alarm has ended
 abbrev pub is_over : List StepMade → Bool
@@ -348,22 +346,30 @@ end_of (spots.Sem object place) = Some (steps.Sem object (sem_ops.PollEnd place)
 end_of (spots.Msgq object place) = Some (steps.Msgq object (msgq_ops.PollEnd place))
 end_of spot = None
 
--- the step waits for the event at this position: it ends its registration, or looks at its signal
-abbrev pub WaitsFor : List Event → List StepMade → ℕ → Step → Type 0
-WaitsFor events play k step =
-    ((spot : Spot) × IsRegistered events play spot k × (end_of spot ≡ Some step))
-    ⊎ ((signal : Ref) × (slice_get events k ≡ Some (Sig signal))
-    × (steps.LookSignal (ref_object signal) true ≡ step))
+-- the attempts that wait for the event at this position: of a signal its look that must find it raised; of another one whose ask
+-- has registered the end of that registration; and else none
+abbrev pub WaitsForEvent : List Event → List StepMade → ℕ → Event → List Step → Type 0
+WaitsForEvent events play k (Sig signal) own = own ≡ steps.LookSignal (ref_object signal) true ∷ []
+WaitsForEvent events play k event own =
+    ((spot : Spot) × (step : Step) × IsRegistered events play spot k × (end_of spot ≡ Some step) × (own ≡ step ∷ []))
+    ⊎ (((spot : Spot) → IsRegistered events play spot k → ⊥) × (own ≡ []))
 
--- a poll that waits attempts all that it waits for, in the order of the events, and the end of its alarm last
-pub record WaitsForAll (events : List Event) (play : List StepMade) (attempts : List Step) : Type 0 where
-  pub all : (k : ℕ) (step : Step) → WaitsFor events play k step →
-      (index : ℕ) × (slice_get attempts index ≡ Some step)
-  pub in_order : (j k : ℕ) (first second : Step) → j < k → WaitsFor events play j first →
-      WaitsFor events play k second → (i n : ℕ) × (i < n) × (slice_get attempts i ≡ Some first)
-      × (slice_get attempts n ≡ Some second)
-  pub alarm : (moment : ℕ) → IsDue play moment → (index : ℕ) × (index + 1 ≡ length attempts)
-      × (slice_get attempts index ≡ Some (steps.Clock (clock_ops.AlarmEnd moment)))
+-- the end of the alarm, where one was set, and else nothing
+abbrev pub WaitsForAlarm : List StepMade → List Step → Type 0
+WaitsForAlarm play own =
+    ((moment : ℕ) × IsDue play moment × (own ≡ steps.Clock (clock_ops.AlarmEnd moment) ∷ []))
+    ⊎ (((moment : ℕ) → IsDue play moment → ⊥) × (own ≡ []))
+
+-- the attempts are those that wait for each of these events, one event after the other, then the alarm's, and nothing else
+abbrev pub WaitsForEach : List Event → List StepMade → List (ℕ × Event) → List Step → Type 0
+WaitsForEach events play [] attempts = WaitsForAlarm play attempts
+WaitsForEach events play ((k, event) ∷ left) attempts =
+    (own others : List Step) × (attempts ≡ own ++ others) × WaitsForEvent events play k event own
+    × WaitsForEach events play left others
+
+-- a poll that waits attempts just what waits for its events, in their order, and the end of its alarm last
+abbrev pub WaitsForAll : List Event → List StepMade → List Step → Type 0
+WaitsForAll events play attempts = WaitsForEach events play (events_from 0 events) attempts
 
 -- an attempt that asks for an event
 abbrev pub AsksFor : Event → Step → Type 0
