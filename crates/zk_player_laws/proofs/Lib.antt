@@ -4,6 +4,7 @@ pub mod PollPlays
 pub mod PollAnswers
 pub mod PollLaws
 pub mod WrongPolls
+pub mod WaitsAlone
 pub mod PollTells
 pub mod PollLogs
 pub mod PollServed
@@ -30,3 +31,5 @@ pub mod ScriptsPlayed
 pub mod CallsGoOn
 pub mod CallsAttempted
 pub mod WrongCalls
+pub mod StartsDeclared
+pub mod WrongStarts

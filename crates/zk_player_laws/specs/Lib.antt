@@ -10,3 +10,4 @@ pub mod ScriptLaws
 pub mod AttemptLaws
 pub mod StateLaws
 pub mod VisitLaws
+pub mod StartLaws
