@@ -1,180 +1,90 @@
 use crate::Accepted;
 use crate::before::Before;
 use crate::misnamed::is_met;
-use zk_base::{NoMemory, put, put_decimal};
+use crate::text::{Template, Text, next_piece};
+use crate::words::{
+    FIRST_NAME, FORM, FORM_END, MORE_NAMES, NEXT_NAME, NO_NAME, need_words, slot_words,
+};
 use zk_line::name_of;
-use zk_words::{Choice, Head, Need, Rest, Slot, choice_text, row_of};
+use zk_words::{Head, Rest, choice_text, is_same, row_of};
 
 // How many names are listed at most.
 const MOST_LISTED: usize = 8;
 
 /// Appends what would be accepted, where these objects are declared before.
-pub fn put_accepted(
-    out: &mut Vec<u8>,
-    before: Option<&Before>,
-    accepted: Accepted,
-) -> Result<(), NoMemory> {
+pub fn put_accepted(text: &mut Text, before: Option<&Before>, accepted: Accepted) {
+    let mut template = Template::of(accepted.words());
+    while let Some(piece) = next_piece(&mut template) {
+        text.put(piece.words);
+        if !piece.place.is_empty() {
+            put_part(text, before, accepted, piece.place);
+        }
+    }
+}
+
+fn put_part(text: &mut Text, before: Option<&Before>, accepted: Accepted, place: &[u8]) {
     match accepted {
-        Accepted::Text(text) => put(out, text),
-        Accepted::Form(head) => put_form(out, head),
-        Accepted::NewName => put(
-            out,
-            b"a name that isn't reserved, and that nothing before it has",
-        ),
-        Accepted::Object(need) => {
-            put(out, b"the name of ")?;
-            put(out, need_text(need))?;
-            put_names(out, before, accepted)
+        Accepted::Form(head) => put_form(text, head),
+        Accepted::Object(need) if is_same(place, b"need") => text.put(need_words(need)),
+        Accepted::Number(least, most) => {
+            let number = if is_same(place, b"least") {
+                least
+            } else {
+                most
+            };
+            text.put_number(u64::from(number));
         }
-        Accepted::Owner => {
-            put(out, b"the name of a thread, an item or a listener")?;
-            put_names(out, before, accepted)
+        Accepted::Either(choice) => text.put(choice_text(choice, is_same(place, b"first"))),
+        Accepted::Message(Some(size)) => {
+            let each: u64 = if is_same(place, b"size") { 1 } else { 2 };
+            text.put_number(each.saturating_mul(size as u64));
         }
-        Accepted::Rawable => {
-            put(out, b"the name of a semaphore, a message queue or a signal")?;
-            put_names(out, before, accepted)
-        }
-        Accepted::Number(least, most) => put_range(out, least, most),
-        Accepted::Either(choice) => put_choice(out, choice),
-        Accepted::Message(size) => put_message_form(out, size),
-    }
-}
-
-fn put_range(out: &mut Vec<u8>, least: u32, most: u32) -> Result<(), NoMemory> {
-    put(out, b"a number from ")?;
-    put_decimal(out, u64::from(least))?;
-    put(out, b" to ")?;
-    put_decimal(out, u64::from(most))
-}
-
-fn put_choice(out: &mut Vec<u8>, choice: Choice) -> Result<(), NoMemory> {
-    put(out, b"`")?;
-    put(out, choice_text(choice, true))?;
-    put(out, b"` or `")?;
-    put(out, choice_text(choice, false))?;
-    put(out, b"`")
-}
-
-fn put_message_form(out: &mut Vec<u8>, size: Option<usize>) -> Result<(), NoMemory> {
-    match size {
-        Some(size) => {
-            put(out, b"a message of ")?;
-            put_decimal(out, size as u64)?;
-            put(out, b" bytes: ")?;
-            put_decimal(out, size.saturating_mul(2) as u64)?;
-            put(out, b" digits of `0` to `9` and `a` to `f`")
-        }
-        None => put(
-            out,
-            b"a message of 1 to 64 bytes: for each two digits of `0` to `9` and `a` to `f`",
-        ),
-    }
-}
-
-/// What meets a need, in words.
-pub fn need_text(need: Need) -> &'static [u8] {
-    match need {
-        Need::Thread => b"a thread",
-        Need::Sem => b"a semaphore",
-        Need::Msgq => b"a message queue",
-        Need::Signal => b"a signal",
-        Need::Queue => b"a queue",
-        Need::Item => b"an item",
-        Need::Chan => b"a channel",
-        Need::Sub => b"a subscriber",
-        Need::Obs => b"a listener or a subscriber",
-        Need::Any => b"an object",
+        _ => put_names(text, before, accepted),
     }
 }
 
 // Those that are declared, in order.
-fn put_names(
-    out: &mut Vec<u8>,
-    before: Option<&Before>,
-    accepted: Accepted,
-) -> Result<(), NoMemory> {
+fn put_names(text: &mut Text, before: Option<&Before>, accepted: Accepted) {
     let Some(before) = before else {
-        return Ok(());
+        return;
     };
     let mut listed: usize = 0;
-    for decl in before.scenario().decls() {
+    for decl in before.scenario.decls() {
         if is_met(accepted, decl) {
             if MOST_LISTED <= listed {
-                return put(out, b", ..");
+                return text.put(MORE_NAMES);
             }
-            put(out, if listed == 0 { b": " } else { b", " })?;
-            put(out, name_of(decl))?;
+            text.put(if listed == 0 { FIRST_NAME } else { NEXT_NAME });
+            text.put(name_of(decl));
             listed = listed.saturating_add(1);
         }
     }
     if listed == 0 {
-        put(out, b"; none is declared before this line")
-    } else {
-        Ok(())
+        text.put(NO_NAME);
     }
 }
 
 /// Appends the form of a line.
-pub fn put_form(out: &mut Vec<u8>, head: Head) -> Result<(), NoMemory> {
+pub fn put_form(text: &mut Text, head: Head) {
     let row = row_of(head);
-    put(out, b"`")?;
-    put(out, row.first)?;
+    text.put(FORM);
+    text.put(row.first);
     for slot in row.slots {
-        put(out, b" ")?;
-        put(out, slot_text(*slot))?;
+        text.put(b" ");
+        text.put(slot_words(*slot));
     }
-    put_rest(out, row.rest)?;
-    put(out, b"`")
+    match row.rest {
+        Rest::Nothing => {}
+        Rest::Maybe(slot) => put_more(text, slot_words(slot), b"]"),
+        Rest::Many(slot) => put_more(text, slot_words(slot), b" ..]"),
+        Rest::Events => text.put(b" EVENT .."),
+    }
+    text.put(FORM_END);
 }
 
-fn put_rest(out: &mut Vec<u8>, rest: Rest) -> Result<(), NoMemory> {
-    match rest {
-        Rest::Nothing => Ok(()),
-        Rest::Maybe(slot) => {
-            put(out, b" [")?;
-            put(out, slot_text(slot))?;
-            put(out, b"]")
-        }
-        Rest::Many(slot) => {
-            put(out, b" [")?;
-            put(out, slot_text(slot))?;
-            put(out, b" ..]")
-        }
-        Rest::Events => put(out, b" EVENT .."),
-    }
-}
-
-/// What stands for a word in the form of a line.
-fn slot_text(slot: Slot) -> &'static [u8] {
-    match slot {
-        Slot::New => b"NAME",
-        Slot::Owner => b"NAME",
-        Slot::Object(need) => object_text(need),
-        Slot::Rawable => b"OBJECT",
-        Slot::Number(_, _) => b"NUMBER",
-        Slot::Priority => b"PRIO",
-        Slot::Either(Choice::Mode) => b"super|user",
-        Slot::Either(Choice::State) => b"on|off",
-        Slot::Either(Choice::Drain) => b"plug|open",
-        Slot::Hex => b"HEX",
-        Slot::Wait => b"WAIT",
-        Slot::Event => b"EVENT",
-        Slot::Valid => b"VALID",
-        Slot::Raw => b"raw",
-    }
-}
-
-fn object_text(need: Need) -> &'static [u8] {
-    match need {
-        Need::Thread => b"THREAD",
-        Need::Sem => b"SEM",
-        Need::Msgq => b"MSGQ",
-        Need::Signal => b"SIGNAL",
-        Need::Queue => b"QUEUE",
-        Need::Item => b"ITEM",
-        Need::Chan => b"CHAN",
-        Need::Sub => b"SUB",
-        Need::Obs => b"OBSERVER",
-        Need::Any => b"OBJECT",
-    }
+// What may stand behind the others.
+fn put_more(text: &mut Text, slot: &[u8], end: &[u8]) {
+    text.put(b" [");
+    text.put(slot);
+    text.put(end);
 }

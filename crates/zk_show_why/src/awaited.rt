@@ -1,10 +1,13 @@
 use crate::people::{known, worker_of};
-use zk_base::Entry;
+use crate::serving::first_named;
+use zk_base::{Entry, Who};
+use zk_line::word_of;
 use zk_model_bus::{ChanOp, ChanReply, ObsReply};
 use zk_model_wait::{MsgqReply, SemReply};
 use zk_model_work::{Submitted, WorkReply};
 use zk_scenario::{Call, Scenario};
 use zk_trace::{History, Trace};
+use zk_words::Word;
 use zk_worker::{Log, Spot};
 
 /// Whoever a call waits for by what that player does: it holds a channel, or runs an item.
@@ -16,108 +19,102 @@ pub struct Keeper {
 }
 
 /// The entry at a place of an object's history.
-pub fn entry_at<O, R>(
-    histories: &[History<O, R>],
-    object: u32,
-    place: u64,
-) -> Option<&Entry<O, R>> {
+fn entry_at<O, R>(histories: &[History<O, R>], object: u32, place: u64) -> Option<&Entry<O, R>> {
     let history = histories.get(object as usize)?;
     history.items().get(place as usize)
 }
 
 /// Whether a player's last step began a wait, or asked an event of a poll that wasn't ready.
 pub fn is_waiting(trace: &Trace, log: &Log) -> bool {
-    match log.steps.items().last() {
-        Some(spot) => begins_wait(trace, spot).unwrap_or(false),
-        None => false,
-    }
+    let waits = match log.steps.items().last() {
+        Some(spot) => begins_wait(trace, spot),
+        None => None,
+    };
+    waits.unwrap_or(false)
 }
 
 fn begins_wait(trace: &Trace, spot: &Spot) -> Option<bool> {
-    match *spot {
-        Spot::Work(place) => {
-            let entry = trace.work.items().get(place as usize)?;
-            Some(is_work_wait(&entry.reply))
-        }
-        Spot::Sem(object, place) => {
-            let reply = entry_at(trace.sems.items(), object, place)?.reply;
-            Some(reply == SemReply::Wait || reply == SemReply::Armed)
-        }
-        Spot::Msgq(object, place) => {
-            let reply = entry_at(trace.msgqs.items(), object, place)?.reply;
-            Some(reply == MsgqReply::Wait || reply == MsgqReply::Armed)
-        }
+    let waits = match *spot {
+        Spot::Work(place) => match trace.work.items().get(place as usize)?.reply {
+            WorkReply::Wait => true,
+            WorkReply::WaitFor(_) => true,
+            _ => false,
+        },
+        Spot::Sem(object, place) => match entry_at(trace.sems.items(), object, place)?.reply {
+            SemReply::Wait => true,
+            SemReply::Armed => true,
+            _ => false,
+        },
+        Spot::Msgq(object, place) => match entry_at(trace.msgqs.items(), object, place)?.reply {
+            MsgqReply::Wait => true,
+            MsgqReply::Armed => true,
+            _ => false,
+        },
         Spot::Chan(object, place) => {
-            let reply = entry_at(trace.chans.items(), object, place)?.reply;
-            Some(reply == ChanReply::Wait)
+            entry_at(trace.chans.items(), object, place)?.reply == ChanReply::Wait
         }
         Spot::Obs(object, place) => {
-            let reply = entry_at(trace.observers.items(), object, place)?.reply;
-            Some(reply == ObsReply::Wait)
+            entry_at(trace.observers.items(), object, place)?.reply == ObsReply::Wait
         }
-        Spot::LookSignal(_, seen) => Some(!seen.raised),
-        _ => None,
-    }
-}
-
-fn is_work_wait(reply: &WorkReply) -> bool {
-    match reply {
-        WorkReply::Wait => true,
-        WorkReply::WaitFor(_) => true,
+        Spot::LookSignal(_, seen) => !seen.raised,
         _ => false,
-    }
+    };
+    Some(waits)
 }
 
 /// Who keeps a player waiting in this call, whose last step began the wait.
 pub fn keeper_of(scenario: &Scenario, trace: &Trace, log: &Log, call: &Call) -> Option<Keeper> {
-    match call {
-        Call::Claim(chan, _) => holder_of(trace, known(*chan)?),
-        Call::Publish(chan, _, _) => holder_of(trace, known(*chan)?),
-        Call::Notify(chan, _) => holder_of(trace, known(*chan)?),
-        Call::Read(chan, _) => holder_of(trace, known(*chan)?),
-        Call::CancelSync(item) => runner_of(trace, scenario.number(known(*item)?)),
-        Call::Flush(_) => admitted_to(scenario, trace, admission_awaited(trace, log)?),
-        Call::Drain(queue, _) => Some(Keeper {
-            player: worker_of(scenario, scenario.number(known(*queue)?)),
+    let word = word_of(call);
+    if word == Word::Flush {
+        return admitted_to(scenario, trace, admission_awaited(trace, log)?);
+    }
+    let object = known(first_named(call)?)?;
+    match word {
+        Word::Claim => holder_of(trace, object),
+        Word::Publish => holder_of(trace, object),
+        Word::Notify => holder_of(trace, object),
+        Word::Read => holder_of(trace, object),
+        Word::CancelSync => runner_of(trace, scenario.number(object)),
+        Word::Drain => Some(Keeper {
+            player: worker_of(scenario, scenario.number(object)),
             since: None,
         }),
         _ => None,
     }
 }
 
-/// Who holds a channel, by the last entry that says so.
-pub fn holder_of(trace: &Trace, chan: u32) -> Option<Keeper> {
-    let history = trace.chans.items().get(chan as usize)?;
-    for entry in history.items().iter().rev() {
+/// Who holds a channel.
+fn holder_of(trace: &Trace, chan: u32) -> Option<Keeper> {
+    let mut holder = None;
+    for entry in trace.chans.items().get(chan as usize)?.items() {
         match (entry.op, entry.reply) {
-            (_, ChanReply::Got) => {
-                return Some(Keeper {
-                    player: entry.who.number as usize,
-                    since: Some(entry.step),
-                });
-            }
-            (ChanOp::Free, _) => return None,
-            (ChanOp::Finish, ChanReply::Done) => return None,
+            (_, ChanReply::Got) => holder = Some(since(entry.who, entry.step)),
+            (ChanOp::Free, _) => holder = None,
+            (ChanOp::Finish, ChanReply::Done) => holder = None,
             _ => {}
         }
     }
-    None
+    holder
 }
 
-/// The worker that runs an item, by the item's number.
+// Whoever made this step.
+fn since(who: Who, step: u32) -> Keeper {
+    Keeper {
+        player: who.number as usize,
+        since: Some(step),
+    }
+}
+
+/// The worker that has run an item last, by the item's number.
 fn runner_of(trace: &Trace, item: u32) -> Option<Keeper> {
-    for entry in trace.work.items().iter().rev() {
+    let mut runner = None;
+    for entry in trace.work.items() {
         match &entry.reply {
-            WorkReply::Run(run, _) if *run == item => {
-                return Some(Keeper {
-                    player: entry.who.number as usize,
-                    since: Some(entry.step),
-                });
-            }
+            WorkReply::Run(run, _) if *run == item => runner = Some(since(entry.who, entry.step)),
             _ => {}
         }
     }
-    None
+    runner
 }
 
 // The number of the admission that a flush awaits.
@@ -133,23 +130,23 @@ fn admission_awaited(trace: &Trace, log: &Log) -> Option<u64> {
 
 /// The worker that runs an admission, or that has it before it.
 fn admitted_to(scenario: &Scenario, trace: &Trace, number: u64) -> Option<Keeper> {
-    for entry in trace.work.items().iter().rev() {
-        if let WorkReply::Run(_, admission) = &entry.reply {
-            if *admission == number {
-                return Some(Keeper {
-                    player: entry.who.number as usize,
-                    since: Some(entry.step),
-                });
+    let mut keeper = None;
+    for entry in trace.work.items() {
+        match &entry.reply {
+            WorkReply::Run(_, admission) if *admission == number => {
+                keeper = Some(since(entry.who, entry.step));
+            }
+            reply => {
+                if let Some(queue) = queue_in(reply, number) {
+                    keeper = Some(Keeper {
+                        player: worker_of(scenario, queue),
+                        since: None,
+                    });
+                }
             }
         }
-        if let Some(queue) = queue_in(&entry.reply, number) {
-            return Some(Keeper {
-                player: worker_of(scenario, queue),
-                since: None,
-            });
-        }
     }
-    None
+    keeper
 }
 
 // The queue to which this reply says that an admission went.

@@ -5,9 +5,9 @@ use zk_scenario::{Decl, Scenario, ScenarioRefused, Why, read_scenario};
 /// What the lines before a refused one say.
 #[derive(Drop)]
 pub struct Before {
-    scenario: Scenario,
+    pub scenario: Scenario,
     /// Whether a script is open.
-    open: bool,
+    pub is_open: bool,
 }
 
 impl Before {
@@ -16,7 +16,7 @@ impl Before {
         match read_scenario(alloc, front) {
             Ok(scenario) => Ok(Some(Before {
                 scenario,
-                open: false,
+                is_open: false,
             })),
             Err(ScenarioRefused::At(_, Why::Order)) => Before::with_end(alloc, front),
             Err(ScenarioRefused::At(_, _)) => Ok(None),
@@ -32,28 +32,20 @@ impl Before {
         match read_scenario(alloc, &text) {
             Ok(scenario) => Ok(Some(Before {
                 scenario,
-                open: true,
+                is_open: true,
             })),
             Err(ScenarioRefused::At(_, _)) => Ok(None),
             Err(ScenarioRefused::NoMemory) => Err(NoMemory),
         }
     }
 
-    pub fn scenario(&self) -> &Scenario {
-        &self.scenario
-    }
-
     /// Whose script is open.
     pub fn owner(&self) -> Option<&Decl> {
-        if !self.open {
+        if !self.is_open {
             return None;
         }
         let script = self.scenario.scripts().last()?;
         self.scenario.decls().get(script.owner as usize)
-    }
-
-    pub fn is_open(&self) -> bool {
-        self.open
     }
 
     /// What a name was declared as.

@@ -1,28 +1,29 @@
-use crate::people::put_player;
 use crate::run::Run;
+use crate::story::{Saying, Story};
+use crate::words::Told;
 use std::alloc::Global;
-use zk_base::{NoMemory, put};
+use zk_base::NoMemory;
 
-/// Appends the circles of players each of whom waits for the next, a line for each.
-pub fn put_circles(out: &mut Vec<u8>, run: &Run<'_>, open: &[usize]) -> Result<(), NoMemory> {
-    let enders = enders_of(*out.allocator(), run)?;
+/// Tells of the circles of players each of whom waits for the next, a line for each.
+pub fn tell_circles(
+    alloc: Global,
+    story: &mut Story,
+    run: &Run<'_>,
+    open: &[usize],
+) -> Result<(), NoMemory> {
+    let mut enders = Vec::new(alloc);
+    for player in 0..run.players() {
+        enders.push(run.ender(player))?;
+    }
     for player in open {
         if is_first_in_circle(&enders, *player) {
-            put_circle(out, run, &enders, *player)?;
+            tell_circle(story, &enders, *player);
         }
     }
     Ok(())
 }
 
-// For each player the only one who could end its wait.
-fn enders_of(alloc: Global, run: &Run<'_>) -> Result<Vec<Option<usize>>, NoMemory> {
-    let mut enders = Vec::new(alloc);
-    for player in 0..run.players() {
-        enders.push(run.ender(player))?;
-    }
-    Ok(enders)
-}
-
+// The only one who could end a player's wait.
 fn ender(enders: &[Option<usize>], player: usize) -> Option<usize> {
     *enders.get(player)?
 }
@@ -40,29 +41,24 @@ fn is_first_in_circle(enders: &[Option<usize>], player: usize) -> bool {
     false
 }
 
-fn put_circle(
-    out: &mut Vec<u8>,
-    run: &Run<'_>,
-    enders: &[Option<usize>],
-    player: usize,
-) -> Result<(), NoMemory> {
+fn tell_circle(story: &mut Story, enders: &[Option<usize>], player: usize) {
     let mut at = player;
     for number in 0..enders.len() {
         let Some(next) = ender(enders, at) else {
-            return put(out, b".\n");
+            break;
         };
-        put(out, if number == 0 { b"A circle: " } else { b", " })?;
-        put_player(out, run.scenario, at)?;
-        put(out, b" waits for ")?;
-        if next == at {
-            put(out, b"itself")?;
-        } else {
-            put_player(out, run.scenario, next)?;
-        }
+        let told = match number {
+            0 if next == at => Told::CircleOfOne,
+            0 => Told::Circle,
+            _ => Told::CircleOn,
+        };
+        let mut saying = Saying::of(told).player(at);
+        saying.other = next;
+        story.say(saying);
         if next == player {
-            return put(out, b".\n");
+            break;
         }
         at = next;
     }
-    put(out, b".\n")
+    story.say(Saying::of(Told::LineEnd));
 }

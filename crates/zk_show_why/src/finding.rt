@@ -1,9 +1,10 @@
-use crate::Cause;
+use crate::placed::PlacedWord;
+use crate::words::Cause;
 use zk_words::{Choice, Head, Need};
 
-/// Which bytes of a line are meant.
-#[derive(Clone, Copy, PartialEq, Eq)]
-pub struct Mark {
+/// Some bytes of a line.
+#[derive(Clone, Copy)]
+pub struct Span {
     /// The place of the first, from 0.
     pub from: usize,
     /// The place behind the last.
@@ -13,12 +14,43 @@ pub struct Mark {
 /// What would be accepted instead.
 #[derive(Clone, Copy)]
 pub enum Accepted {
-    /// These words say it.
-    Text(&'static [u8]),
+    // Of a whole text, and of the bytes of a line.
+    WholeText,
+    Header,
+    LastFeed,
+    OneFeed,
+    OneSpace,
+    PlainBytes,
+    // The text without something of it.
+    WithoutLine,
+    Without,
+    // Words that are spelled right.
+    Line,
+    FormattedLine,
+    Name,
+    Event,
+    Wait,
+    Priority,
+    Validator,
+    Raw,
+    // The line elsewhere, or among others.
+    InFront,
+    EndFirst,
+    EndHere,
+    FirstScript,
+    ScriptBefore,
+    UserInThread,
+    InThreadOrItem,
+    InThread,
+    Elsewhere,
+    // Other numbers and names.
+    Once,
+    OtherNumber,
+    InRange,
+    Declared,
+    NewName,
     /// A line of this form.
     Form(Head),
-    /// A name that no object has.
-    NewName,
     /// An object that meets this need.
     Object(Need),
     /// An object that can play a script.
@@ -38,7 +70,7 @@ pub enum Accepted {
 pub struct Finding {
     pub cause: Cause,
     /// There is none where no word of the line is meant.
-    pub mark: Option<Mark>,
+    pub mark: Option<Span>,
     pub accepted: Accepted,
     /// The line's first word, where its form says more of what would be accepted.
     pub head: Option<Head>,
@@ -60,19 +92,25 @@ impl Finding {
         let to = from.saturating_add(len);
         Finding {
             cause,
-            mark: Some(Mark { from, to }),
+            mark: Some(Span { from, to }),
             accepted,
             head: None,
         }
     }
 
+    /// A word is marked.
+    pub fn on(cause: Cause, word: PlacedWord<'_>, accepted: Accepted) -> Finding {
+        Finding::at(cause, word.from, word.text.len(), accepted)
+    }
+
+    /// A byte of a word is marked.
+    pub fn in_word(cause: Cause, word: PlacedWord<'_>, at: usize, accepted: Accepted) -> Finding {
+        Finding::at(cause, word.from.saturating_add(at), 1, accepted)
+    }
+
     /// The same, in a line that begins so.
-    pub fn in_line(self, head: Head) -> Finding {
-        Finding {
-            cause: self.cause,
-            mark: self.mark,
-            accepted: self.accepted,
-            head: Some(head),
-        }
+    pub fn in_line(mut self, head: Head) -> Finding {
+        self.head = Some(head);
+        self
     }
 }

@@ -4,7 +4,6 @@
 mod accepted;
 mod awaited;
 mod before;
-mod cause;
 mod circle;
 mod finding;
 mod limits;
@@ -21,14 +20,17 @@ mod refusal;
 mod run;
 mod sentences;
 mod serving;
+mod signs;
 mod spelling;
 mod spent;
 mod stand;
 mod still;
+mod story;
 mod surface;
+mod text;
 mod why;
+mod words;
 
-pub use cause::Cause;
-pub use finding::{Accepted, Finding, Mark};
+use finding::{Accepted, Finding};
 pub use refusal::put_refusal;
 pub use why::put_why;

@@ -1,9 +1,7 @@
-use zk_base::{NoMemory, put, put_decimal};
-use zk_line::put_call;
 use zk_scenario::{Call, Scenario};
 
 /// A call of a script.
-#[derive(Clone, Copy, PartialEq, Eq)]
+#[derive(Clone, Copy)]
 pub struct Place {
     /// The object whose script it is.
     pub owner: u32,
@@ -29,18 +27,4 @@ pub fn line_of(scenario: &Scenario, place: Place) -> u64 {
         line = line.saturating_add(calls).saturating_add(2);
     }
     line.saturating_add(2).saturating_add(place.next as u64)
-}
-
-/// Appends the line of a call: its number and its text.
-pub fn put_line(out: &mut Vec<u8>, scenario: &Scenario, place: Place) -> Result<(), NoMemory> {
-    put(out, b"line ")?;
-    put_decimal(out, line_of(scenario, place))?;
-    match place.call(scenario) {
-        Some(call) => {
-            put(out, b", `")?;
-            put_call(out, scenario.decls(), call)?;
-            put(out, b"`")
-        }
-        None => Ok(()),
-    }
 }

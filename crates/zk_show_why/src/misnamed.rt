@@ -1,17 +1,18 @@
 use crate::before::Before;
-use crate::placed::{PlacedPart, PlacedParts};
-use crate::{Accepted, Cause, Finding};
+use crate::placed::{PlacedPart, PlacedParts, PlacedWord};
+use crate::words::Cause;
+use crate::{Accepted, Finding};
 use zk_base::is_name;
 use zk_line::kind_of;
 use zk_scenario::Decl;
 use zk_words::{
-    Head, Line, Lines, Need, Slot, can_be_raw, event_named, line_of, need_of, plays_script,
+    Head, Line, Lines, Need, Slot, can_be_raw, event_named, is_same, line_of, need_of, plays_script,
 };
 
-/// Which name of a line can't stand where it does.
+/// Which name of a line can't stand where it does, with these lines behind it.
 pub fn name_finding(
     before: &Before,
-    head: Head,
+    line: &[u8],
     parts: &PlacedParts<'_>,
     behind: &[u8],
 ) -> Finding {
@@ -24,45 +25,30 @@ pub fn name_finding(
             return finding;
         }
         if is_observer(part.slot) {
-            if let Some(again) = same_name(part.text, &left) {
-                return of_part(Cause::ObserverTwice, again, ONCE);
+            if let Some(again) = same_name(part.word.text, &left) {
+                return Finding::on(Cause::ObserverTwice, again, Accepted::Once);
             }
         }
     }
-    match head {
-        Head::Allow => all_parts(Cause::AllowedTwice, parts),
-        _ => Finding::unmarked(Cause::OtherName, Accepted::Form(head)),
+    match parts.head {
+        // All words behind the first.
+        Head::Allow => {
+            let len = line.len().saturating_sub(parts.from);
+            Finding::at(Cause::AllowedTwice, parts.from, len, Accepted::Once)
+        }
+        head => Finding::unmarked(Cause::OtherName, Accepted::Form(head)),
     }
-}
-
-const ONCE: Accepted = Accepted::Text(b"the same said once");
-
-// All words behind the first.
-fn all_parts(cause: Cause, parts: &PlacedParts<'_>) -> Finding {
-    let mut left = parts.again();
-    let Some(first) = left.next() else {
-        return Finding::unmarked(cause, ONCE);
-    };
-    let mut end = first.from.saturating_add(first.text.len());
-    while let Some(part) = left.next() {
-        end = part.from.saturating_add(part.text.len());
-    }
-    Finding::at(cause, first.from, end.saturating_sub(first.from), ONCE)
-}
-
-fn of_part(cause: Cause, part: PlacedPart<'_>, accepted: Accepted) -> Finding {
-    Finding::at(cause, part.from, part.text.len(), accepted)
 }
 
 // The name that a word says, and what would be accepted in its place.
 fn asked(part: PlacedPart<'_>) -> Option<(&[u8], Accepted)> {
     match part.slot {
-        Slot::New => Some((part.text, Accepted::NewName)),
-        Slot::Owner => Some((part.text, Accepted::Owner)),
-        Slot::Object(need) => Some((part.text, Accepted::Object(need))),
-        Slot::Rawable => Some((part.text, Accepted::Rawable)),
+        Slot::New => Some((part.word.text, Accepted::NewName)),
+        Slot::Owner => Some((part.word.text, Accepted::Owner)),
+        Slot::Object(need) => Some((part.word.text, Accepted::Object(need))),
+        Slot::Rawable => Some((part.word.text, Accepted::Rawable)),
         Slot::Event => {
-            let event = event_named(part.text)?;
+            let event = event_named(part.word.text)?;
             Some((event.name, Accepted::Object(need_of(event.source))))
         }
         _ => None,
@@ -74,7 +60,7 @@ fn reserved_finding(parts: &PlacedParts<'_>) -> Option<Finding> {
     while let Some(part) = left.next() {
         if let Some((name, accepted)) = asked(part) {
             if !is_name(name) {
-                return Some(of_part(Cause::Reserved, part, accepted));
+                return Some(Finding::on(Cause::Reserved, part.word, accepted));
             }
         }
     }
@@ -100,7 +86,7 @@ fn part_finding(before: &Before, behind: &[u8], part: PlacedPart<'_>) -> Option<
             }
         }
     };
-    Some(of_part(cause, part, accepted))
+    Some(Finding::on(cause, part.word, accepted))
 }
 
 /// Whether what was declared would be accepted.
@@ -120,7 +106,7 @@ fn is_declared_in(lines: &[u8], name: &[u8]) -> bool {
         if let Line::Formed(Head::Declare(_), parts) = line_of(line) {
             let mut parts = parts;
             if let Some(part) = parts.next() {
-                if part.text == name {
+                if is_same(part.text, name) {
                     return true;
                 }
             }
@@ -137,11 +123,11 @@ fn is_observer(slot: Slot) -> bool {
 }
 
 // The next word that names the same observer.
-fn same_name<'a>(name: &[u8], parts: &PlacedParts<'a>) -> Option<PlacedPart<'a>> {
+fn same_name<'a>(name: &[u8], parts: &PlacedParts<'a>) -> Option<PlacedWord<'a>> {
     let mut left = parts.again();
     while let Some(part) = left.next() {
-        if part.text == name {
-            return Some(part);
+        if is_same(part.word.text, name) {
+            return Some(part.word);
         }
     }
     None

@@ -1,9 +1,9 @@
-ghost use Rattle.std.specs.Prelude.{◌≡◌, ◌++◌, slice_get, OnOk, OnErr};
+ghost use Rattle.std.specs.Prelude.{◌≡◌, slice_get};
 ghost use Rattle.zk_scenario.specs.Players.{players};
 ghost use Rattle.zk_show_why.specs.Players.{name_of_object, player_name};
 
-use zk_base::{NoMemory, put};
-use zk_line::name_of;
+use crate::words::{NO_KIND, kind_words};
+use zk_line::{kind_of, name_of};
 use zk_scenario::{Ref, Scenario};
 
 /// The object of a player: a thread, or the queue of a worker.
@@ -33,20 +33,14 @@ pub fn name_at(scenario: &Scenario, object: u32) -> &[u8]
     }
 }
 
-/// Appends the name of a player. A worker has that of its queue.
-pub fn put_player(out: &mut Vec<u8>, scenario: &Scenario, player: usize) -> Result<(), NoMemory>
-    ensures ok { OnOk result (out.new.items ≡ out.old.items ++ player_name scenario.now.decls player) }
-    ensures err { OnErr result (out.new.items ≡ out.old.items) }
+/// The name of a player. A worker has that of its queue.
+pub fn player_name(scenario: &Scenario, player: usize) -> &[u8]
+    ensures { result.now ≡ player_name scenario.now.decls player }
 {
     match player_object(scenario, player) {
-        Some(object) => put(out, name_at(scenario, object)),
-        None => put(out, b"?"),
+        Some(object) => name_at(scenario, object),
+        None => b"?",
     }
-}
-
-/// Appends the name of an object.
-pub fn put_object(out: &mut Vec<u8>, scenario: &Scenario, object: u32) -> Result<(), NoMemory> {
-    put(out, name_at(scenario, object))
 }
 
 /// The name that a call says.
@@ -62,5 +56,16 @@ pub fn known(named: Ref) -> Option<u32> {
     match named {
         Ref::Known(object) => Some(object),
         Ref::Unknown(_) => None,
+    }
+}
+
+/// What an object is, in words.
+pub fn kind_at(scenario: &Scenario, named: Ref) -> &'static [u8] {
+    let Some(object) = known(named) else {
+        return NO_KIND;
+    };
+    match scenario.decls().get(object as usize) {
+        Some(decl) => kind_words(kind_of(decl)),
+        None => NO_KIND,
     }
 }

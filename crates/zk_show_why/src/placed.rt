@@ -1,6 +1,6 @@
 ghost use Rattle.std.specs.Prelude.{◌<◌, length, IfSome};
 
-use zk_words::{Line, Parts, Slot, Words, line_of};
+use zk_words::{Head, Line, Parts, Slot, Words, line_of};
 
 /// A word of a line.
 #[derive(Clone, Copy)]
@@ -39,16 +39,17 @@ impl<'a> PlacedWords<'a> {
 #[derive(Clone, Copy)]
 pub struct PlacedPart<'a> {
     pub slot: Slot,
-    pub text: &'a [u8],
-    /// The place of its first byte, from 0.
-    pub from: usize,
+    pub word: PlacedWord<'a>,
 }
 
 /// The words behind the first of such a line, with their places, from left to right.
 #[derive(Drop)]
 pub struct PlacedParts<'a> {
+    /// The first word of the line.
+    pub head: Head,
     parts: Parts<'a>,
-    from: usize,
+    /// The place of the first byte of the next one, from 0.
+    pub from: usize,
 }
 
 impl<'a> PlacedParts<'a> {
@@ -56,7 +57,8 @@ impl<'a> PlacedParts<'a> {
     pub fn of(line: &'a [u8]) -> Option<PlacedParts<'a>> {
         let first = PlacedWords::of(line).next()?;
         match line_of(line) {
-            Line::Formed(_, parts) => Some(PlacedParts {
+            Line::Formed(head, parts) => Some(PlacedParts {
+                head,
                 parts,
                 from: first.text.len().saturating_add(1),
             }),
@@ -67,6 +69,7 @@ impl<'a> PlacedParts<'a> {
     /// The same once more.
     pub fn again(&self) -> PlacedParts<'a> {
         PlacedParts {
+            head: self.head,
             parts: self.parts.again(),
             from: self.from,
         }
@@ -80,8 +83,10 @@ impl<'a> PlacedParts<'a> {
         self.from = from.saturating_add(part.text.len()).saturating_add(1);
         Some(PlacedPart {
             slot: part.slot,
-            text: part.text,
-            from,
+            word: PlacedWord {
+                text: part.text,
+                from,
+            },
         })
     }
 }

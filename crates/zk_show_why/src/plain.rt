@@ -1,10 +1,10 @@
-use crate::Mark;
-use crate::surface::is_printable;
-use zk_base::{NoMemory, put};
+use crate::finding::Span;
+use crate::signs::is_printable;
+use crate::text::Text;
 use zk_words::digit_of;
 
 /// How many columns a line of text takes at most.
-pub const WIDEST: usize = 100;
+const WIDEST: usize = 100;
 
 // What stands in front of the text of a line.
 const INDENT: &[u8] = b"    ";
@@ -20,34 +20,28 @@ const CUT_ROOM: usize = 92;
 // How many bytes are shown in front of a mark that doesn't stand near the beginning.
 const BEFORE_MARK: usize = 16;
 
-/// Appends a text in printable ASCII: any other byte as `\x` and two digits.
-pub fn put_plain(out: &mut Vec<u8>, text: &[u8]) -> Result<(), NoMemory> {
-    for byte in text {
-        put_plain_byte(out, *byte)?;
-    }
-    Ok(())
-}
-
-fn put_plain_byte(out: &mut Vec<u8>, byte: u8) -> Result<(), NoMemory> {
-    if is_printable(byte) {
-        put(out, &[byte])
-    } else {
-        put(out, b"\\x")?;
-        put(out, &[digit_of(byte / 16), digit_of(byte % 16)])
+// In printable ASCII: any other byte as `\x` and two digits.
+fn put_plain(text: &mut Text, bytes: &[u8]) {
+    for byte in bytes {
+        if is_printable(*byte) {
+            text.put(&[*byte]);
+        } else {
+            text.put(&[b'\\', b'x', digit_of(*byte / 16), digit_of(*byte % 16)]);
+        }
     }
 }
 
-// How many columns a byte takes.
-fn width_of(byte: u8) -> usize {
-    if is_printable(byte) { 1 } else { 4 }
-}
-
-fn width(text: &[u8]) -> usize {
+// How many columns some bytes take.
+fn width(bytes: &[u8]) -> usize {
     let mut columns: usize = 0;
-    for byte in text {
+    for byte in bytes {
         columns = columns.saturating_add(width_of(*byte));
     }
     columns
+}
+
+fn width_of(byte: u8) -> usize {
+    if is_printable(byte) { 1 } else { 4 }
 }
 
 /// The bytes of a text from a place to another.
@@ -69,23 +63,17 @@ fn fitting(text: &[u8], room: usize) -> usize {
     for byte in text {
         columns = columns.saturating_add(width_of(*byte));
         if room < columns {
-            return bytes;
+            break;
         }
         bytes = bytes.saturating_add(1);
     }
     bytes
 }
 
-/// The part of a line that is shown.
-#[derive(Clone, Copy)]
-struct Window {
-    from: usize,
-    to: usize,
-}
-
-fn window_at(line: &[u8], mark: Mark) -> Window {
+// The part of a line that is shown.
+fn window_at(line: &[u8], mark: Span) -> Span {
     if width(line) <= ROOM {
-        return Window {
+        return Span {
             from: 0,
             to: line.len(),
         };
@@ -97,7 +85,7 @@ fn window_at(line: &[u8], mark: Mark) -> Window {
         mark.from.saturating_sub(BEFORE_MARK)
     };
     let shown = fitting(between(line, from, line.len()), CUT_ROOM);
-    Window {
+    Span {
         from,
         to: from.saturating_add(shown),
     }
@@ -105,42 +93,44 @@ fn window_at(line: &[u8], mark: Mark) -> Window {
 
 /// Appends a line, cut where it is long, and below it a line that marks some of its bytes. Of an empty line there is
 /// nothing to be seen.
-pub fn put_marked(out: &mut Vec<u8>, line: &[u8], mark: Option<Mark>) -> Result<(), NoMemory> {
+pub fn put_marked(text: &mut Text, line: &[u8], mark: Option<Span>) {
     if line.is_empty() {
-        return Ok(());
+        return;
     }
-    let Some(mark) = mark else {
-        return put_shown(out, line, &window_at(line, Mark { from: 0, to: 0 }));
-    };
-    let shown = window_at(line, mark);
-    put_shown(out, line, &shown)?;
-    put(out, INDENT)?;
-    if 0 < shown.from {
-        put_each(out, b" ", CUT.len())?;
+    let shown = window_at(line, mark.unwrap_or(Span { from: 0, to: 0 }));
+    put_shown(text, line, shown);
+    if let Some(mark) = mark {
+        put_mark(text, line, shown, mark);
     }
-    put_each(out, b" ", width(between(line, shown.from, mark.from)))?;
-    // Behind the end of the line.
-    put_each(out, b" ", mark.from.saturating_sub(line.len()))?;
-    let marked = width(between(line, mark.from, mark.to.min(shown.to)));
-    put_each(out, b"^", marked.max(1))?;
-    put(out, b"\n")
 }
 
-fn put_shown(out: &mut Vec<u8>, line: &[u8], shown: &Window) -> Result<(), NoMemory> {
-    put(out, INDENT)?;
+fn put_shown(text: &mut Text, line: &[u8], shown: Span) {
+    text.put(INDENT);
     if 0 < shown.from {
-        put(out, CUT)?;
+        text.put(CUT);
     }
-    put_plain(out, between(line, shown.from, shown.to))?;
+    put_plain(text, between(line, shown.from, shown.to));
     if shown.to < line.len() {
-        put(out, CUT)?;
+        text.put(CUT);
     }
-    put(out, b"\n")
+    text.put(b"\n");
 }
 
-fn put_each(out: &mut Vec<u8>, sign: &[u8], count: usize) -> Result<(), NoMemory> {
-    for _ in 0..count.min(WIDEST) {
-        put(out, sign)?;
+fn put_mark(text: &mut Text, line: &[u8], shown: Span, mark: Span) {
+    text.put(INDENT);
+    if 0 < shown.from {
+        put_each(text, b" ", CUT.len());
     }
-    Ok(())
+    put_each(text, b" ", width(between(line, shown.from, mark.from)));
+    // Behind the end of the line.
+    put_each(text, b" ", mark.from.saturating_sub(line.len()));
+    let marked = width(between(line, mark.from, mark.to.min(shown.to)));
+    put_each(text, b"^", marked.max(1));
+    text.put(b"\n");
+}
+
+fn put_each(text: &mut Text, sign: &[u8], count: usize) {
+    for _ in 0..count.min(WIDEST) {
+        text.put(sign);
+    }
 }

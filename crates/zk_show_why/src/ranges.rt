@@ -1,12 +1,13 @@
 use crate::before::Before;
 use crate::placed::{PlacedPart, PlacedParts};
-use crate::{Accepted, Cause, Finding};
+use crate::words::Cause;
+use crate::{Accepted, Finding};
 use zk_base::LONGEST_MESSAGE;
 use zk_scenario::Decl;
 use zk_words::{Head, MOST_COUNT, Slot, number_in, priority_of, wait_of};
 
 /// Which number of a line is out of its range, or which message isn't of its size.
-pub fn number_finding(before: &Before, head: Head, parts: &PlacedParts<'_>) -> Finding {
+pub fn number_finding(before: &Before, parts: &PlacedParts<'_>) -> Finding {
     let size = size_asked(before, parts);
     let mut left = parts.again();
     while let Some(part) = left.next() {
@@ -14,16 +15,16 @@ pub fn number_finding(before: &Before, head: Head, parts: &PlacedParts<'_>) -> F
             return finding;
         }
     }
-    match head {
+    match parts.head {
         Head::Declare(_) => together_finding(parts),
-        _ => Finding::unmarked(Cause::OutOfRange, Accepted::Form(head)),
+        head => Finding::unmarked(Cause::OutOfRange, Accepted::Form(head)),
     }
 }
 
 // The size of the messages of what the first word names.
 fn size_asked(before: &Before, parts: &PlacedParts<'_>) -> Option<usize> {
     let part = parts.again().next()?;
-    match (part.slot, before.declared(part.text)?) {
+    match (part.slot, before.declared(part.word.text)?) {
         (Slot::New, _) => None,
         (_, Decl::Msgq(_, size, _, _)) => Some(*size as usize),
         (_, Decl::Chan(_, message, _, _)) => Some(message.bytes().len()),
@@ -33,44 +34,32 @@ fn size_asked(before: &Before, parts: &PlacedParts<'_>) -> Option<usize> {
 
 fn part_finding(size: Option<usize>, part: PlacedPart<'_>) -> Option<Finding> {
     match part.slot {
-        Slot::Number(least, most) => match number_in(least, most, part.text) {
+        Slot::Number(least, most) => match number_in(least, most, part.word.text) {
             Some(_) => None,
-            None => Some(of_part(Cause::OutOfRange, part, Accepted::Number(least, most))),
+            None => Some(Finding::on(Cause::OutOfRange, part.word, Accepted::Number(least, most))),
         },
-        Slot::Priority => match priority_of(part.text) {
+        Slot::Priority => match priority_of(part.word.text) {
             Some(Some(_)) => None,
-            _ => Some(of_part(
-                Cause::PriorityOutOfRange,
-                part,
-                Accepted::Text(b"a number from -16 to 15"),
-            )),
+            _ => Some(Finding::on(Cause::PriorityOutOfRange, part.word, Accepted::Priority)),
         },
-        Slot::Wait => match wait_of(part.text) {
+        Slot::Wait => match wait_of(part.word.text) {
             Some(_) => None,
-            None => Some(of_part(
-                Cause::WaitOutOfRange,
-                part,
-                Accepted::Text(b"`no`, `forever`, or a number of ticks from 1 to 1000000"),
-            )),
+            None => Some(Finding::on(Cause::WaitOutOfRange, part.word, Accepted::Wait)),
         },
         Slot::Hex => message_finding(size, part),
         _ => None,
     }
 }
 
-fn of_part(cause: Cause, part: PlacedPart<'_>, accepted: Accepted) -> Finding {
-    Finding::at(cause, part.from, part.text.len(), accepted)
-}
-
 fn message_finding(size: Option<usize>, part: PlacedPart<'_>) -> Option<Finding> {
-    let bytes = part.text.len() / 2;
+    let bytes = part.word.text.len() / 2;
     match size {
         Some(size) if bytes != size => {
-            Some(of_part(Cause::OtherSize, part, Accepted::Message(Some(size))))
+            Some(Finding::on(Cause::OtherSize, part.word, Accepted::Message(Some(size))))
         }
         _ => {
             if LONGEST_MESSAGE < bytes {
-                Some(of_part(Cause::LongMessage, part, Accepted::Message(None)))
+                Some(Finding::on(Cause::LongMessage, part.word, Accepted::Message(None)))
             } else {
                 None
             }
@@ -85,15 +74,21 @@ fn together_finding(parts: &PlacedParts<'_>) -> Finding {
     match (parts.next(), parts.next(), parts.next()) {
         (Some(_), Some(initial), Some(limit)) => match limit.slot {
             Slot::Hex => {
-                let size = number_in(1, LONGEST_MESSAGE as u32, initial.text);
-                let accepted = Accepted::Message(size.map(|size| size as usize));
-                of_part(Cause::OtherFirstSize, limit, accepted)
+                let accepted = match number_in(1, LONGEST_MESSAGE as u32, initial.word.text) {
+                    Some(size) => Accepted::Message(Some(size as usize)),
+                    None => Accepted::Message(None),
+                };
+                Finding::on(Cause::OtherFirstSize, limit.word, accepted)
             }
             _ => {
-                let most = number_in(1, MOST_COUNT, limit.text).unwrap_or(MOST_COUNT);
-                of_part(Cause::InitialAboveLimit, initial, Accepted::Number(0, most))
+                let most = number_in(1, MOST_COUNT, limit.word.text).unwrap_or(MOST_COUNT);
+                Finding::on(
+                    Cause::InitialAboveLimit,
+                    initial.word,
+                    Accepted::Number(0, most),
+                )
             }
         },
-        _ => Finding::unmarked(Cause::OutOfRange, Accepted::Text(b"another number")),
+        _ => Finding::unmarked(Cause::OutOfRange, Accepted::OtherNumber),
     }
 }

@@ -7,16 +7,18 @@ use crate::before::Before;
 use crate::limits::limit_finding;
 use crate::misnamed::name_finding;
 use crate::misplaced::order_finding;
-use crate::placed::{PlacedParts, PlacedWords};
-use crate::plain::put_marked;
+use crate::placed::PlacedParts;
+use crate::plain::{between, put_marked};
 use crate::ranges::number_finding;
 use crate::spelling::spelling_finding;
 use crate::surface::surface_finding;
-use crate::{Accepted, Cause, Finding};
+use crate::text::Text;
+use crate::words::{ACCEPTED, Cause, END, IN_FORM};
+use crate::{Accepted, Finding};
 use std::alloc::Global;
 use zk_base::{NoMemory, put, put_decimal};
 use zk_scenario::Why;
-use zk_words::{Head, Lines, head_of};
+use zk_words::Lines;
 
 /// The refused line in its text.
 #[derive(Clone, Copy)]
@@ -48,31 +50,30 @@ pub fn put_refusal(out: &mut Vec<u8>, text: &[u8], line: u32, why: Why) -> Resul
 
 // All behind the first line.
 fn refusal_told(alloc: Global, text: &[u8], line: u32, why: Why) -> Result<Vec<u8>, NoMemory> {
-    let mut out = Vec::new(alloc);
     let refused = refused_line(text, line);
     let before = Before::of(alloc, refused.front)?;
     let finding = finding_of(refused, text, before.as_ref(), why);
+    let mut told = Text::new(alloc);
     if why != Why::Length {
-        put_marked(&mut out, refused.line, finding.mark)?;
+        put_marked(&mut told, refused.line, finding.mark);
     }
-    put(&mut out, finding.cause.sentence())?;
-    put(&mut out, b"\nAccepted: ")?;
-    put_accepted(&mut out, before.as_ref(), finding.accepted)?;
-    if let Some(head) = finding.head {
-        put_in_form(&mut out, finding.accepted, head)?;
-    }
-    put(&mut out, b".\n")?;
-    Ok(out)
+    told.put(finding.cause.sentence());
+    told.put(ACCEPTED);
+    put_accepted(&mut told, before.as_ref(), finding.accepted);
+    put_in_form(&mut told, finding);
+    told.put(END);
+    told.whole()
 }
 
 // The form of the whole line, unless it was said.
-fn put_in_form(out: &mut Vec<u8>, accepted: Accepted, head: Head) -> Result<(), NoMemory> {
-    match accepted {
-        Accepted::Form(_) => Ok(()),
-        _ => {
-            put(out, b"; the line is ")?;
-            put_form(out, head)
+fn put_in_form(told: &mut Text, finding: Finding) {
+    match (finding.accepted, finding.head) {
+        (Accepted::Form(_), _) => {}
+        (_, Some(head)) => {
+            told.put(IN_FORM);
+            put_form(told, head);
         }
+        (_, None) => {}
     }
 }
 
@@ -87,11 +88,8 @@ fn refused_line(text: &[u8], line: u32) -> Refused<'_> {
             return Refused {
                 line: piece,
                 fed: end < text.len(),
-                front: text.split_at_checked(front).unwrap_or((text, &[])).0,
-                behind: text
-                    .split_at_checked(end.saturating_add(1))
-                    .unwrap_or((text, &[]))
-                    .1,
+                front: between(text, 0, front),
+                behind: between(text, end.saturating_add(1), text.len()),
             };
         }
         front = end.saturating_add(1);
@@ -107,36 +105,29 @@ fn refused_line(text: &[u8], line: u32) -> Refused<'_> {
 
 fn finding_of(refused: Refused<'_>, text: &[u8], before: Option<&Before>, why: Why) -> Finding {
     match why {
-        Why::Length => Finding::unmarked(
-            Cause::TooLong,
-            Accepted::Text(b"at most 1,048,576 bytes"),
-        ),
+        Why::Length => Finding::unmarked(Cause::TooLong, Accepted::WholeText),
         Why::Header => header_finding(refused, text),
         Why::Line => line_finding(refused),
-        _ => formed_finding(refused, before, why),
+        _ => match before {
+            Some(before) => formed_finding(refused, before, why),
+            None => unknown_finding(why),
+        },
     }
 }
 
-const HEADER: Accepted = Accepted::Text(b"`zk 1` as the first line");
-
 fn header_finding(refused: Refused<'_>, text: &[u8]) -> Finding {
     if text.is_empty() {
-        return Finding::unmarked(Cause::Empty, HEADER);
+        return Finding::unmarked(Cause::Empty, Accepted::Header);
     }
     match surface_finding(refused.line) {
         Some(finding) => finding,
-        None => Finding::at(Cause::OtherHeader, 0, refused.line.len(), HEADER),
+        None => Finding::at(Cause::OtherHeader, 0, refused.line.len(), Accepted::Header),
     }
 }
 
 fn line_finding(refused: Refused<'_>) -> Finding {
     if !refused.fed {
-        return Finding::at(
-            Cause::NoLineFeed,
-            refused.line.len(),
-            1,
-            Accepted::Text(b"a line feed at the end of the last line too"),
-        );
+        return Finding::at(Cause::NoLineFeed, refused.line.len(), 1, Accepted::LastFeed);
     }
     match surface_finding(refused.line) {
         Some(finding) => finding,
@@ -145,51 +136,27 @@ fn line_finding(refused: Refused<'_>) -> Finding {
 }
 
 // Of a line that is spelled right.
-fn formed_finding(refused: Refused<'_>, before: Option<&Before>, why: Why) -> Finding {
+fn formed_finding(refused: Refused<'_>, before: &Before, why: Why) -> Finding {
     let line = refused.line;
-    let Some(before) = before else {
-        return unknown_finding(why);
-    };
-    if why == Why::Order {
-        return order_finding(before, line);
-    }
-    let Some(parts) = PlacedParts::of(line) else {
-        return unknown_finding(why);
-    };
-    let Some(head) = first_head(line) else {
-        return unknown_finding(why);
-    };
-    match why {
-        Why::Number => number_finding(before, head, &parts),
-        Why::Name => name_finding(before, head, &parts, refused.behind),
-        Why::Limit => limit_finding(before, line, head, &parts),
+    match (why, PlacedParts::of(line)) {
+        (Why::Order, _) => order_finding(before, line),
+        (Why::Number, Some(parts)) => number_finding(before, &parts),
+        (Why::Name, Some(parts)) => name_finding(before, line, &parts, refused.behind),
+        (Why::Limit, Some(parts)) => limit_finding(before, line, &parts),
         _ => unknown_finding(why),
     }
-}
-
-fn first_head(line: &[u8]) -> Option<Head> {
-    head_of(PlacedWords::of(line).next()?.text)
 }
 
 // Where the lines before aren't those of a scenario, so that no cause can be found.
 fn unknown_finding(why: Why) -> Finding {
     let (cause, accepted) = match why {
-        Why::Header => (Cause::OtherHeader, HEADER),
-        Why::Line => (
-            Cause::OtherSpelling,
-            Accepted::Text(b"a line as docs/FORMATS.md has them"),
-        ),
-        Why::Order => (
-            Cause::OtherOrder,
-            Accepted::Text(b"the same line elsewhere"),
-        ),
-        Why::Number => (Cause::OutOfRange, Accepted::Text(b"a number in its range")),
-        Why::Name => (
-            Cause::OtherName,
-            Accepted::Text(b"the name of a declared object"),
-        ),
-        Why::Limit => (Cause::ManyCalls, Accepted::Text(b"the text without it")),
-        Why::Length => (Cause::TooLong, Accepted::Text(b"at most 1,048,576 bytes")),
+        Why::Header => (Cause::OtherHeader, Accepted::Header),
+        Why::Line => (Cause::OtherSpelling, Accepted::FormattedLine),
+        Why::Order => (Cause::OtherOrder, Accepted::Elsewhere),
+        Why::Number => (Cause::OutOfRange, Accepted::InRange),
+        Why::Name => (Cause::OtherName, Accepted::Declared),
+        Why::Limit => (Cause::ManyCalls, Accepted::Without),
+        Why::Length => (Cause::TooLong, Accepted::WholeText),
     };
     Finding::unmarked(cause, accepted)
 }

@@ -1,8 +1,9 @@
 ghost use Rattle.std.specs.Prelude.{◌≡◌, IfOk};
 ghost use Rattle.zk_show_why.specs.Players.{players_in, same_state};
 
-use crate::awaited::{Keeper, is_waiting, keeper_of};
-use crate::serving::first_ahead;
+use crate::awaited::{Keeper, keeper_of};
+use crate::lines::Place;
+use crate::serving::{Sought, first_ahead};
 use crate::stand::{Stand, stand_of};
 use std::alloc::Global;
 use zk_base::NoMemory;
@@ -70,12 +71,11 @@ impl<'a> Run<'a> {
 
     /// The call in which a player waits.
     pub fn waiting(&self, player: usize) -> Option<&Call> {
-        if self.state(player)? != PlayerState::Standing
-            || !is_waiting(self.trace, self.log(player)?)
-        {
+        let stand = self.stand(player)?;
+        if !stand.waits {
             return None;
         }
-        self.stand(player)?.top()?.call(self.scenario)
+        stand.top()?.call(self.scenario)
     }
 
     /// Who keeps a player waiting: the holder of a channel, or the worker of a run.
@@ -84,15 +84,12 @@ impl<'a> Run<'a> {
         keeper_of(self.scenario, self.trace, self.log(player)?, call)
     }
 
-    /// Whether a call that could end a wait is ahead of another player that stands.
-    pub fn serves_ahead(&self, player: usize, server: usize, call: &Call) -> bool {
-        if player == server || self.state(server) != Some(PlayerState::Standing) {
-            return false;
+    /// Where a call that could end a wait is ahead of another player that stands.
+    pub fn ahead(&self, player: usize, server: usize, waiting: &Call) -> Option<Place> {
+        if player == server || self.state(server)? != PlayerState::Standing {
+            return None;
         }
-        match self.stand(server) {
-            Some(stand) => first_ahead(self.scenario, stand, call).is_some(),
-            None => false,
-        }
+        first_ahead(self.scenario, self.stand(server)?, Sought::EndOf(waiting))
     }
 
     /// The only player who could end the wait of another, if there is just one.
@@ -102,8 +99,8 @@ impl<'a> Run<'a> {
         }
         let call = self.waiting(player)?;
         let mut ender = None;
-        for server in 0..self.players() {
-            if self.serves_ahead(player, server, call) {
+        for server in 0..self.stands.len() {
+            if self.ahead(player, server, call).is_some() {
                 if ender.is_some() {
                     return None;
                 }
@@ -119,6 +116,11 @@ impl<'a> Run<'a> {
             Some(log) => log.steps.items().len(),
             None => 0,
         }
+    }
+
+    /// The number of a player's last step.
+    pub fn last_step(&self, player: usize) -> u64 {
+        self.steps(player).saturating_sub(1) as u64
     }
 
     /// Whether each player but this one is through, or was ended by an oops.

@@ -3,40 +3,32 @@ ghost use Rattle.zk_base.specs.Fronts.{StaysInFront};
 ghost use Rattle.zk_show_why.specs.Players.{players_in};
 ghost use Rattle.zk_show_why.specs.Sentences.{state_words, Tells, TellsEach};
 
-use crate::oops::oops_told;
-use crate::open::open_told;
-use crate::people::put_player;
+use crate::oops::tell_oops;
+use crate::open::tell_open;
+use crate::people::player_name;
 use crate::run::Run;
-use crate::spent::spent_told;
+use crate::spent::tell_spent;
+use crate::story::Story;
+use crate::words::{END, state_words};
 use std::alloc::Global;
 use zk_base::{NoMemory, put};
 use zk_worker::PlayerState;
 
-/// What is said of a player that stands so, behind its name.
-fn state_words(state: PlayerState) -> &'static [u8]
-    ensures { result.now ≡ state_words state }
-{
-    match state {
-        PlayerState::Spent => b" has made all the steps that a player may make, ",
-        PlayerState::Oops => b" was ended by an oops ",
-        PlayerState::Done => b" is through",
-        PlayerState::Standing => b" stands ",
-    }
-}
-
-// And what behind those words.
+// What stands behind those words.
 fn told_of(
     alloc: Global,
     run: &Run<'_>,
     state: PlayerState,
     player: usize,
 ) -> Result<Vec<u8>, NoMemory> {
+    let mut story = Story::new(alloc);
     match state {
-        PlayerState::Spent => spent_told(alloc, run, player),
-        PlayerState::Oops => oops_told(alloc, run, player),
-        PlayerState::Done => Ok(Vec::new(alloc)),
-        PlayerState::Standing => open_told(alloc, run, player),
+        PlayerState::Spent => tell_spent(&mut story, run, player),
+        PlayerState::Oops => tell_oops(&mut story, run, player),
+        PlayerState::Done => {}
+        PlayerState::Standing => tell_open(&mut story, run, player),
     }
+    story.text(alloc, run.scenario)
 }
 
 /// Appends a sentence on each player that stands so, in order.
@@ -76,8 +68,8 @@ fn put_sentence(
     ensures kept { StaysInFront out.old.items out.new.items }
 {
     let told = told_of(*out.allocator(), run, state, player)?;
-    put_player(out, run.scenario, player)?;
+    put(out, player_name(run.scenario, player))?;
     put(out, state_words(state))?;
     put(out, &told)?;
-    put(out, b".\n")
+    put(out, END)
 }

@@ -1,7 +1,9 @@
 use crate::lines::Place;
 use crate::stand::Stand;
-use zk_line::Event;
+use crate::words::Told;
+use zk_line::{Arg, Event, said_of, word_of};
 use zk_scenario::{Call, Decl, Ref, Scenario};
+use zk_words::Word;
 
 /// Whether two calls name the same object.
 fn is_same(one: Ref, other: Ref) -> bool {
@@ -12,7 +14,7 @@ fn is_same(one: Ref, other: Ref) -> bool {
 }
 
 /// Whether a call could end the wait of another one.
-pub fn serves(scenario: &Scenario, waiting: &Call, call: &Call) -> bool {
+fn serves(scenario: &Scenario, waiting: &Call, call: &Call) -> bool {
     match (waiting, call) {
         (Call::Take(sem, _), Call::Give(other)) => is_same(*sem, *other),
         (Call::Take(sem, _), Call::Reset(other)) => is_same(*sem, *other),
@@ -21,19 +23,25 @@ pub fn serves(scenario: &Scenario, waiting: &Call, call: &Call) -> bool {
         (Call::Put(queue, _, _), Call::Purge(other)) => is_same(*queue, *other),
         (Call::SubWait(sub, _), Call::Publish(chan, _, _)) => tells(scenario, *chan, *sub),
         (Call::SubWait(sub, _), Call::Notify(chan, _)) => tells(scenario, *chan, *sub),
-        (Call::Poll(_, events), _) => events.items().iter().any(|event| readies(event, call)),
+        (Call::Poll(_, events), _) => readies(events.items(), call),
         _ => false,
     }
 }
 
-// Whether a call makes an event ready.
-fn readies(event: &Event, call: &Call) -> bool {
-    match (event, call) {
-        (Event::Sem(sem), Call::Give(other)) => is_same(*sem, *other),
-        (Event::Msgq(queue), Call::Put(other, _, _)) => is_same(*queue, *other),
-        (Event::Sig(signal), Call::Raise(other, _)) => is_same(*signal, *other),
-        _ => false,
+// Whether a call makes one of these events ready.
+fn readies(events: &[Event], call: &Call) -> bool {
+    for event in events {
+        let ready = match (event, call) {
+            (Event::Sem(sem), Call::Give(other)) => is_same(*sem, *other),
+            (Event::Msgq(queue), Call::Put(other, _, _)) => is_same(*queue, *other),
+            (Event::Sig(signal), Call::Raise(other, _)) => is_same(*signal, *other),
+            _ => false,
+        };
+        if ready {
+            return true;
+        }
     }
+    false
 }
 
 // Whether an observer stands in the line of a channel.
@@ -41,122 +49,130 @@ fn tells(scenario: &Scenario, chan: Ref, observer: Ref) -> bool {
     let (Ref::Known(chan), Ref::Known(observer)) = (chan, observer) else {
         return false;
     };
-    match scenario.decls().get(chan as usize) {
-        Some(Decl::Chan(_, _, _, observers)) => observers
-            .numbers()
-            .iter()
-            .any(|at| *at == observer),
-        _ => false,
+    let Some(Decl::Chan(_, _, _, observers)) = scenario.decls().get(chan as usize) else {
+        return false;
+    };
+    for at in observers.numbers() {
+        if *at == observer {
+            return true;
+        }
     }
+    false
 }
 
-/// The calls that could end the wait of this one, in words.
-pub fn serving_text(waiting: &Call) -> &'static [u8] {
-    match waiting {
-        Call::Take(_, _) => b"`give` or `reset`",
-        Call::Get(_, _) => b"`put`",
-        Call::Put(_, _, _) => b"`get` or `purge`",
-        Call::SubWait(_, _) => b"`publish` or `notify`",
-        Call::Poll(_, _) => b"`give`, `put` or `raise`",
-        _ => b"call",
-    }
-}
-
-/// What a call waits for, in words around the name of its object.
+/// What may be said of a wait in a call.
 #[derive(Clone, Copy)]
-pub struct Awaited {
-    pub front: &'static [u8],
-    /// There is none where it waits for one of several.
-    pub object: Option<Ref>,
-    pub behind: &'static [u8],
+pub struct Wait {
+    /// What it waits for.
+    pub awaited: Told,
+    /// That the waiting player itself, or another one, keeps it so.
+    pub own: Told,
+    pub kept: Told,
+    /// That nobody has a call ahead that would end it.
+    pub nobody: Told,
 }
 
-/// What a call waits for.
-pub fn awaited_by(waiting: &Call) -> Awaited {
-    match waiting {
-        Call::Take(sem, _) => of_object(b"for a give of ", *sem, b""),
-        Call::Get(queue, _) => of_object(b"for a message in ", *queue, b""),
-        Call::Put(queue, _, _) => of_object(b"for room in ", *queue, b""),
-        Call::SubWait(sub, _) => of_object(b"until ", *sub, b" is told of a channel"),
-        Call::Claim(chan, _) => of_object(CHANNEL, *chan, b""),
-        Call::Publish(chan, _, _) => of_object(CHANNEL, *chan, b""),
-        Call::Notify(chan, _) => of_object(CHANNEL, *chan, b""),
-        Call::Read(chan, _) => of_object(CHANNEL, *chan, b""),
-        Call::CancelSync(item) => of_object(b"for the end of the run of ", *item, b""),
-        Call::Flush(item) => of_object(b"until the submission of ", *item, b" has run"),
-        Call::Drain(queue, _) => of_object(
-            b"until all that was submitted to ",
-            *queue,
-            b" has run",
-        ),
-        _ => Awaited {
-            front: b"for one of its events",
-            object: None,
-            behind: b"",
-        },
+/// What may be said of a wait in this call.
+pub fn wait_in(call: &Call) -> Wait {
+    match word_of(call) {
+        Word::Take => served(Told::AwaitsGive, Told::NobodyGives),
+        Word::Get => served(Told::AwaitsMessage, Told::NobodyPuts),
+        Word::Put => served(Told::AwaitsRoom, Told::NobodyGets),
+        Word::SubWait => served(Told::AwaitsNotice, Told::NobodyPublishes),
+        Word::Poll => served(Told::AwaitsEvent, Told::NobodyMakesReady),
+        Word::CancelSync => kept(Told::AwaitsRunEnd, Told::OwnRun, Told::Runs),
+        Word::Flush => kept(Told::AwaitsRun, Told::OwnSubmission, Told::HasToRun),
+        Word::Drain => kept(Told::AwaitsAll, Told::OwnQueue, Told::IsItsWorker),
+        Word::Claim => kept(Told::AwaitsChannel, Told::OwnChannel, Told::Holds),
+        Word::Publish => kept(Told::AwaitsChannel, Told::OwnChannel, Told::Holds),
+        Word::Notify => kept(Told::AwaitsChannel, Told::OwnChannel, Told::Holds),
+        Word::Read => kept(Told::AwaitsChannel, Told::OwnChannel, Told::Holds),
+        _ => served(Told::AwaitsEvent, Told::NobodyCalls),
     }
 }
 
-const CHANNEL: &[u8] = b"for the channel ";
-
-fn of_object(front: &'static [u8], object: Ref, behind: &'static [u8]) -> Awaited {
-    Awaited {
-        front,
-        object: Some(object),
-        behind,
+// A wait that another call ends.
+fn served(awaited: Told, nobody: Told) -> Wait {
+    Wait {
+        awaited,
+        own: Told::OwnChannel,
+        kept: Told::Holds,
+        nobody,
     }
 }
 
-/// The first call that could end a wait, among those that are ahead where a player stands: in its innermost script, and
-/// then in those around it.
-pub fn first_ahead(scenario: &Scenario, stand: &Stand, waiting: &Call) -> Option<Place> {
-    for place in stand.places().iter().rev() {
-        if let Some(found) = first_from(scenario, place.owner, place.next, waiting) {
-            return Some(found);
+// A wait for what a player has or does.
+fn kept(awaited: Told, own: Told, kept: Told) -> Wait {
+    Wait {
+        awaited,
+        own,
+        kept,
+        nobody: Told::NobodyCalls,
+    }
+}
+
+/// The object that a call names first.
+pub fn first_named(call: &Call) -> Option<Ref> {
+    match said_of(call).args {
+        [Some(Arg::Object(object)), ..] => Some(object),
+        _ => None,
+    }
+}
+
+/// Which call is looked for.
+#[derive(Clone, Copy)]
+pub enum Sought<'a> {
+    /// One that could end the wait in this call.
+    EndOf(&'a Call),
+    /// One that lets time go on.
+    Tick,
+}
+
+fn is_sought(scenario: &Scenario, sought: Sought<'_>, call: &Call) -> bool {
+    match (sought, call) {
+        (Sought::EndOf(waiting), _) => serves(scenario, waiting, call),
+        (Sought::Tick, Call::Tick(_)) => true,
+        (Sought::Tick, _) => false,
+    }
+}
+
+/// The first such call among those that are ahead where a player stands: in its innermost script, and then in those around
+/// it.
+pub fn first_ahead(scenario: &Scenario, stand: &Stand, sought: Sought<'_>) -> Option<Place> {
+    let mut innermost = None;
+    for place in &stand.places {
+        let found = first_from(scenario, *place, sought);
+        if found.is_some() {
+            innermost = found;
+        }
+    }
+    innermost
+}
+
+// The first one from a place of a script on.
+fn first_from(scenario: &Scenario, from: Place, sought: Sought<'_>) -> Option<Place> {
+    for (next, call) in scenario.calls(from.owner).iter().enumerate() {
+        if from.next <= next && is_sought(scenario, sought, call) {
+            return Some(Place {
+                owner: from.owner,
+                next,
+            });
         }
     }
     None
 }
 
-fn first_from(scenario: &Scenario, owner: u32, from: usize, waiting: &Call) -> Option<Place> {
-    for (next, call) in scenario.calls(owner).iter().enumerate() {
-        if from <= next && serves(scenario, waiting, call) {
-            return Some(Place { owner, next });
-        }
-    }
-    None
-}
-
-/// The first call that could end a wait, in the script of an item or a listener.
-pub fn first_in_handlers(scenario: &Scenario, waiting: &Call) -> Option<Place> {
+/// The first such call in the script of an item or a listener.
+pub fn first_in_handlers(scenario: &Scenario, sought: Sought<'_>) -> Option<Place> {
     for script in scenario.scripts() {
-        let is_handler = match scenario.decls().get(script.owner as usize) {
-            Some(Decl::Item(_)) => true,
-            Some(Decl::Listener(_)) => true,
-            _ => false,
+        let owner = script.owner;
+        let found = match scenario.decls().get(owner as usize) {
+            Some(Decl::Item(_)) => first_from(scenario, Place { owner, next: 0 }, sought),
+            Some(Decl::Listener(_)) => first_from(scenario, Place { owner, next: 0 }, sought),
+            _ => None,
         };
-        if is_handler {
-            if let Some(found) = first_from(scenario, script.owner, 0, waiting) {
-                return Some(found);
-            }
-        }
-    }
-    None
-}
-
-/// The first `tick` that is ahead where a player stands.
-pub fn first_tick(scenario: &Scenario, stand: &Stand) -> Option<Place> {
-    for place in stand.places().iter().rev() {
-        for (next, call) in scenario.calls(place.owner).iter().enumerate() {
-            match call {
-                Call::Tick(_) if place.next <= next => {
-                    return Some(Place {
-                        owner: place.owner,
-                        next,
-                    });
-                }
-                _ => {}
-            }
+        if found.is_some() {
+            return found;
         }
     }
     None

@@ -1,28 +1,19 @@
 use crate::placed::{PlacedWord, PlacedWords};
-use crate::{Accepted, Cause, Finding};
+use crate::signs::{Sort, first_that};
+use crate::words::Cause;
+use crate::{Accepted, Finding};
 use zk_base::LONGEST_NAME;
 use zk_words::{Head, Rest, Slot, head_of, is_ignore, is_spelled_in, row_of};
-
-const A_NAME: Accepted = Accepted::Text(
-    b"a name: a lower-case letter and then at most 15 lower-case letters, digits and `_`",
-);
-
-const A_LINE: Accepted = Accepted::Text(
-    b"a declaration, `allow`, `script`, `end`, or a call by its word, as docs/FORMATS.md lists them",
-);
 
 /// What is wrong with the words of a line that is no form of a line.
 pub fn spelling_finding(line: &[u8]) -> Finding {
     let mut words = PlacedWords::of(line);
     let Some(first) = words.next() else {
-        return Finding::unmarked(Cause::OtherSpelling, A_LINE);
+        return Finding::unmarked(Cause::OtherSpelling, Accepted::Line);
     };
     match head_of(first.text) {
         Some(head) => behind_head(line, head, &mut words).in_line(head),
-        None => match capital(first, A_LINE) {
-            Some(finding) => finding,
-            None => Finding::at(Cause::NoSuchWord, first.from, first.text.len(), A_LINE),
-        },
+        None => plain(Cause::NoSuchWord, first, Accepted::Line),
     }
 }
 
@@ -57,26 +48,15 @@ fn missing(line: &[u8], head: Head) -> Finding {
 
 fn too_many(words: &mut PlacedWords<'_>, head: Head) -> Finding {
     match words.next() {
-        Some(word) => Finding::at(
-            Cause::WordTooMany,
-            word.from,
-            word.text.len(),
-            Accepted::Form(head),
-        ),
+        Some(word) => Finding::on(Cause::WordTooMany, word, Accepted::Form(head)),
         None => Finding::unmarked(Cause::OtherSpelling, Accepted::Form(head)),
     }
 }
 
 fn maybe_finding(slot: Slot, words: &mut PlacedWords<'_>, head: Head) -> Finding {
     match words.next() {
-        Some(word) => {
-            if is_spelled_in(slot, word.text) {
-                too_many(words, head)
-            } else {
-                word_finding(slot, word)
-            }
-        }
-        None => Finding::unmarked(Cause::OtherSpelling, Accepted::Form(head)),
+        Some(word) if !is_spelled_in(slot, word.text) => word_finding(slot, word),
+        _ => too_many(words, head),
     }
 }
 
@@ -100,18 +80,10 @@ fn events_finding(line: &[u8], words: &mut PlacedWords<'_>, head: Head) -> Findi
         }
     }
     match ignored {
-        Some(word) => Finding::at(Cause::AllIgnored, word.from, word.text.len(), AN_EVENT),
+        Some(word) => Finding::on(Cause::AllIgnored, word, Accepted::Event),
         None => missing(line, head),
     }
 }
-
-const AN_EVENT: Accepted = Accepted::Text(
-    b"`sem:`, `msgq:` or `sig:` with a name behind it, or `ignore` for some of the events",
-);
-
-const A_WAIT: Accepted = Accepted::Text(b"`no`, `forever`, or a number of ticks from 1 to 1000000");
-
-const A_PRIORITY: Accepted = Accepted::Text(b"a number from -16 to 15");
 
 /// What is wrong with a word that isn't spelled as its slot asks.
 fn word_finding(slot: Slot, word: PlacedWord<'_>) -> Finding {
@@ -120,71 +92,58 @@ fn word_finding(slot: Slot, word: PlacedWord<'_>) -> Finding {
         Slot::Owner => name_finding(word),
         Slot::Object(_) => name_finding(word),
         Slot::Rawable => name_finding(word),
-        Slot::Number(least, most) => number_finding(word, Accepted::Number(least, most)),
+        Slot::Number(least, most) => {
+            number_finding(word, Accepted::Number(least, most), Cause::NoNumber)
+        }
         Slot::Priority => priority_finding(word),
         Slot::Either(choice) => plain(Cause::NeitherWord, word, Accepted::Either(choice)),
         Slot::Hex => hex_finding(word),
-        Slot::Wait => wait_finding(word),
-        Slot::Event => plain(Cause::NoEvent, word, AN_EVENT),
-        Slot::Valid => plain(
-            Cause::NoValidator,
-            word,
-            Accepted::Text(
-                b"`any`, or `max:` and the greatest first byte in two digits, as `max:7f`",
-            ),
-        ),
-        Slot::Raw => plain(Cause::OnlyRaw, word, Accepted::Text(b"`raw`, or nothing")),
+        Slot::Wait => number_finding(word, Accepted::Wait, Cause::NoWait),
+        Slot::Event => plain(Cause::NoEvent, word, Accepted::Event),
+        Slot::Valid => plain(Cause::NoValidator, word, Accepted::Validator),
+        Slot::Raw => plain(Cause::OnlyRaw, word, Accepted::Raw),
     }
 }
 
 // The word, unless a capital letter is what is wrong.
 fn plain(cause: Cause, word: PlacedWord<'_>, accepted: Accepted) -> Finding {
-    match capital(word, accepted) {
-        Some(finding) => finding,
-        None => Finding::at(cause, word.from, word.text.len(), accepted),
+    match first_that(word.text, true, Sort::Capital) {
+        Some(at) => Finding::in_word(Cause::CapitalLetter, word, at, accepted),
+        None => Finding::on(cause, word, accepted),
     }
-}
-
-/// The first capital letter of a word.
-fn capital(word: PlacedWord<'_>, accepted: Accepted) -> Option<Finding> {
-    let at = word.text.iter().position(|b| b.is_ascii_uppercase())?;
-    Some(Finding::at(
-        Cause::CapitalLetter,
-        word.from.saturating_add(at),
-        1,
-        accepted,
-    ))
 }
 
 fn name_finding(word: PlacedWord<'_>) -> Finding {
-    if let Some(finding) = capital(word, A_NAME) {
-        return finding;
+    match first_that(word.text, false, Sort::OfName) {
+        Some(at) => sign_finding(Cause::NameSign, word, at, Accepted::Name),
+        None if LONGEST_NAME < word.text.len() => {
+            Finding::on(Cause::LongName, word, Accepted::Name)
+        }
+        None => Finding::in_word(Cause::NameBegins, word, 0, Accepted::Name),
     }
-    if let Some(at) = word.text.iter().position(|b| !is_in_names(*b)) {
-        return Finding::at(Cause::NameSign, word.from.saturating_add(at), 1, A_NAME);
-    }
-    if LONGEST_NAME < word.text.len() {
-        return Finding::at(Cause::LongName, word.from, word.text.len(), A_NAME);
-    }
-    Finding::at(Cause::NameBegins, word.from, 1, A_NAME)
 }
 
-fn is_in_names(byte: u8) -> bool {
-    byte.is_ascii_lowercase() || byte.is_ascii_digit() || byte == b'_'
+// The byte at a place, unless a capital letter is what is wrong.
+fn sign_finding(cause: Cause, word: PlacedWord<'_>, at: usize, accepted: Accepted) -> Finding {
+    match first_that(word.text, true, Sort::Capital) {
+        Some(capital) => Finding::in_word(Cause::CapitalLetter, word, capital, accepted),
+        None => Finding::in_word(cause, word, at, accepted),
+    }
 }
 
-fn number_finding(word: PlacedWord<'_>, accepted: Accepted) -> Finding {
+// Of a word that may be a number, and isn't said otherwise to be wrong.
+fn number_finding(word: PlacedWord<'_>, accepted: Accepted, other: Cause) -> Finding {
     match word.text {
         [b'+', ..] => Finding::at(Cause::PlusSign, word.from, 1, accepted),
         [b'-', ..] => Finding::at(Cause::MinusSign, word.from, 1, accepted),
         [b'0', rest @ ..] => zero_finding(word, rest, word.from, accepted),
-        _ => plain(Cause::NoNumber, word, accepted),
+        _ => plain(other, word, accepted),
     }
 }
 
 // A word that begins with a zero at a place, and goes on so.
 fn zero_finding(word: PlacedWord<'_>, rest: &[u8], zero: usize, accepted: Accepted) -> Finding {
-    if rest.iter().all(|b| b.is_ascii_digit()) {
+    if first_that(rest, false, Sort::Digit).is_none() {
         Finding::at(Cause::LeadingZero, zero, 1, accepted)
     } else {
         plain(Cause::NoNumber, word, accepted)
@@ -193,35 +152,19 @@ fn zero_finding(word: PlacedWord<'_>, rest: &[u8], zero: usize, accepted: Accept
 
 fn priority_finding(word: PlacedWord<'_>) -> Finding {
     match word.text {
-        [b'-', b'0'] => Finding::at(Cause::MinusZero, word.from, 2, A_PRIORITY),
+        [b'-', b'0'] => Finding::at(Cause::MinusZero, word.from, 2, Accepted::Priority),
         [b'-', b'0', rest @ ..] => {
-            zero_finding(word, rest, word.from.saturating_add(1), A_PRIORITY)
+            zero_finding(word, rest, word.from.saturating_add(1), Accepted::Priority)
         }
-        [b'-', ..] => plain(Cause::NoNumber, word, A_PRIORITY),
-        _ => number_finding(word, A_PRIORITY),
-    }
-}
-
-fn wait_finding(word: PlacedWord<'_>) -> Finding {
-    match word.text {
-        [b'+', ..] => number_finding(word, A_WAIT),
-        [b'-', ..] => number_finding(word, A_WAIT),
-        [b'0', ..] => number_finding(word, A_WAIT),
-        _ => plain(Cause::NoWait, word, A_WAIT),
+        [b'-', ..] => plain(Cause::NoNumber, word, Accepted::Priority),
+        _ => number_finding(word, Accepted::Priority, Cause::NoNumber),
     }
 }
 
 fn hex_finding(word: PlacedWord<'_>) -> Finding {
     let accepted = Accepted::Message(None);
-    match word.text.iter().position(|b| !is_hex_digit(*b)) {
-        Some(at) => match capital(word, accepted) {
-            Some(finding) => finding,
-            None => Finding::at(Cause::NoDigit, word.from.saturating_add(at), 1, accepted),
-        },
-        None => Finding::at(Cause::OddDigits, word.from, word.text.len(), accepted),
+    match first_that(word.text, false, Sort::OfMessage) {
+        Some(at) => sign_finding(Cause::NoDigit, word, at, accepted),
+        None => Finding::on(Cause::OddDigits, word, accepted),
     }
-}
-
-fn is_hex_digit(byte: u8) -> bool {
-    byte.is_ascii_digit() || b'a' <= byte && byte <= b'f'
 }

@@ -1,9 +1,9 @@
-use crate::people::put_object;
 use crate::run::Run;
-use std::alloc::Global;
-use zk_base::{NoMemory, put, put_decimal};
+use crate::story::{Saying, Story};
+use crate::words::Told;
 use zk_model_work::WorkReply;
-use zk_words::{Head, Word, row_of};
+use zk_scenario::Ref;
+use zk_words::Word;
 use zk_worker::{Answer, Answers};
 
 // How many of the last calls are looked at for a run that they repeat, and how long that is at most.
@@ -11,30 +11,16 @@ const LAST: usize = 64;
 
 const LONGEST_RUN: usize = 16;
 
-/// How many steps a player has made, and which calls it repeats.
-pub fn spent_told(alloc: Global, run: &Run<'_>, player: usize) -> Result<Vec<u8>, NoMemory> {
-    let mut out = Vec::new(alloc);
-    put_decimal(&mut out, run.steps(player) as u64)?;
+/// Tells how many steps a player has made, and which calls it repeats.
+pub fn tell_spent(story: &mut Story, run: &Run<'_>, player: usize) {
+    story.say(Saying::of(Told::Steps).number(run.steps(player) as u64));
     if let Some(log) = run.log(player) {
-        put_repeated(&mut out, &log.answers)?;
-    }
-    put_last_run(&mut out, run, player)?;
-    Ok(out)
-}
-
-// The calls that the last answered ones repeat.
-fn put_repeated(out: &mut Vec<u8>, answers: &Answers) -> Result<(), NoMemory> {
-    match period(answers) {
-        Some(count) => {
-            put(out, b". It repeats ")?;
-            put_last(out, answers, count)
-        }
-        None if answers.len() == 0 => Ok(()),
-        None => {
-            put(out, b". Its last calls are ")?;
-            put_last(out, answers, LONGEST_RUN)
+        match period(&log.answers) {
+            Some(count) => tell_last(story, &log.answers, count, Told::Repeats),
+            None => tell_last(story, &log.answers, LONGEST_RUN, Told::LastCalls),
         }
     }
+    tell_last_run(story, run, player);
 }
 
 /// The length of the shortest run of calls that the last ones repeat.
@@ -67,32 +53,31 @@ fn word_at(answers: &Answers, place: usize) -> Option<Word> {
     Some(answers.get(place)?.word)
 }
 
-fn put_last(out: &mut Vec<u8>, answers: &Answers, count: usize) -> Result<(), NoMemory> {
-    let first = answers.len().saturating_sub(count);
-    for place in first..answers.len() {
+// Names the last calls; the first of them so.
+fn tell_last(story: &mut Story, answers: &Answers, count: usize, first: Told) {
+    let mut told = first;
+    for place in answers.len().saturating_sub(count)..answers.len() {
         if let Some(word) = word_at(answers, place) {
-            put(out, if place == first { b"`" } else { b", `" })?;
-            put(out, row_of(Head::Call(word)).first)?;
-            put(out, b"`")?;
+            let mut saying = Saying::of(told);
+            saying.call = word;
+            story.say(saying);
+            told = Told::CallToo;
         }
     }
-    Ok(())
 }
 
 // Of a worker, which item it has run last.
-fn put_last_run(out: &mut Vec<u8>, run: &Run<'_>, player: usize) -> Result<(), NoMemory> {
-    if player < run.scenario.threads().len() {
-        return Ok(());
-    }
-    for entry in run.trace.work.items().iter().rev() {
-        if entry.who.number as usize == player {
-            if let WorkReply::Run(item, _) = &entry.reply {
-                if let Some(object) = run.scenario.items().get(*item as usize) {
-                    put(out, b"; the item that it ran last is ")?;
-                    return put_object(out, run.scenario, *object);
-                }
-            }
+fn tell_last_run(story: &mut Story, run: &Run<'_>, player: usize) {
+    let mut last = None;
+    for entry in run.trace.work.items() {
+        match &entry.reply {
+            WorkReply::Run(item, _) if entry.who.number as usize == player => last = Some(*item),
+            _ => {}
         }
     }
-    Ok(())
+    if let Some(item) = last {
+        if let Some(object) = run.scenario.items().get(item as usize) {
+            story.say(Saying::of(Told::RanLast).object(Ref::Known(*object)));
+        }
+    }
 }

@@ -1,22 +1,25 @@
+use crate::awaited::is_waiting;
 use crate::lines::Place;
-use crate::people::player_object;
 use std::alloc::Global;
 use zk_base::NoMemory;
 use zk_model_bus::ObsReply;
 use zk_model_work::WorkReply;
 use zk_scenario::{Scenario, word_of};
 use zk_trace::Trace;
-use zk_worker::{Answer, Answered, Log, Spot};
+use zk_worker::{Answer, Answered, Log, PlayerState, Spot};
 
 /// Where a log leaves its player in the scripts.
 #[derive(Drop)]
 pub struct Stand {
-    // The open scripts, the innermost last. The call that comes next in each isn't answered.
-    places: Vec<Place>,
-    // The item whose run is open, by its object.
-    run: Option<u32>,
-    // The first step behind the last answer, begin, end and visit that opened a script.
-    begun: usize,
+    /// The open scripts, the innermost last. The call that comes next in each isn't answered.
+    pub places: Vec<Place>,
+    /// The item whose handler it plays, by its object.
+    pub run: Option<u32>,
+    /// The number of the first step of the call in which it stands: behind the last answer, begin, end and visit that opened
+    /// a script.
+    pub begun: usize,
+    /// Whether its last step began a wait.
+    pub waits: bool,
     // Whether an oops has ended it.
     dead: bool,
 }
@@ -27,34 +30,18 @@ impl Stand {
             places: Vec::new(alloc),
             run: None,
             begun: 0,
+            waits: false,
             dead: false,
         };
-        if player < scenario.threads().len() {
-            if let Some(object) = player_object(scenario, player) {
-                stand.open(scenario, object)?;
-            }
+        if let Some(thread) = scenario.threads().get(player) {
+            stand.open(scenario, *thread)?;
         }
         Ok(stand)
-    }
-
-    /// The open scripts, the innermost last.
-    pub fn places(&self) -> &[Place] {
-        &self.places
     }
 
     /// The call in which the player stands.
     pub fn top(&self) -> Option<Place> {
         self.places.last().copied()
-    }
-
-    /// The item whose handler it plays, by its object.
-    pub fn run(&self) -> Option<u32> {
-        self.run
-    }
-
-    /// The number of the first step of the call in which it stands.
-    pub fn begun(&self) -> usize {
-        self.begun
     }
 
     // A script without calls is over at once.
@@ -162,9 +149,9 @@ pub fn stand_of(
             _ => stand.step(scenario, trace, spot, step.saturating_add(1))?,
         }
     }
-    if answered == log.answers.len() {
-        Ok(Some(stand))
-    } else {
-        Ok(None)
+    if answered < log.answers.len() {
+        return Ok(None);
     }
+    stand.waits = log.state == PlayerState::Standing && is_waiting(trace, log);
+    Ok(Some(stand))
 }

@@ -1,98 +1,85 @@
-use crate::lines::{Place, put_line};
-use crate::people::{put_object, put_player};
+use crate::lines::Place;
 use crate::run::Run;
-use crate::serving::first_tick;
+use crate::serving::{Sought, first_ahead};
+use crate::story::{Saying, Story};
+use crate::words::Told;
 use std::alloc::Global;
-use zk_base::{NoMemory, put, put_decimal};
+use zk_base::NoMemory;
+use zk_line::{Arg, said_of};
 use zk_model_wait::ClockReply;
 use zk_model_work::{WorkOp, WorkReply};
-use zk_scenario::Call;
+use zk_scenario::Ref;
 use zk_words::Timeout;
 
-/// Appends that time stands still, where a wait has a deadline or an item is delayed.
-pub fn put_time(out: &mut Vec<u8>, run: &Run<'_>, open: &[usize]) -> Result<(), NoMemory> {
+/// Tells that time stands still, where a wait has a deadline or an item is delayed.
+pub fn tell_time(
+    alloc: Global,
+    story: &mut Story,
+    run: &Run<'_>,
+    open: &[usize],
+) -> Result<(), NoMemory> {
     let mut until: usize = 0;
     for player in open {
         if has_deadline(run, *player) {
             until = until.saturating_add(1);
         }
     }
-    let delayed = first_delayed(run, *out.allocator())?;
+    let delayed = first_delayed(run, alloc)?;
     if until == 0 && delayed.is_none() {
         return Ok(());
     }
-    match tick_ahead(run, open) {
-        Some((player, place)) => {
-            put(out, b"Time stands still: ")?;
-            put_player(out, run.scenario, player)?;
-            put(out, b", which stands itself, has ")?;
-            put_line(out, run.scenario, place)?;
-            put(out, b", ahead")?;
-        }
-        None => {
-            let only = until == open.len() || delayed.is_some();
-            put(out, if only { b"Only time" } else { b"Time" })?;
-            put(out, b" stands still: nobody calls `tick` any more")?;
-        }
-    }
-    put(out, b". It is ")?;
-    put_decimal(out, time_of(run))?;
-    put_deadlines(out, run, open, delayed)?;
-    put(out, b".\n")
+    let still = match tick_ahead(run, open) {
+        Some((player, place)) => Saying::of(Told::TickAhead).player(player).line(place),
+        None if until == open.len() || delayed.is_some() => Saying::of(Told::OnlyTime),
+        None => Saying::of(Told::Time),
+    };
+    story.say(still);
+    story.say(Saying::of(Told::ItIs).number(time_of(run)));
+    tell_deadlines(story, run, open, delayed);
+    story.say(Saying::of(Told::LineEnd));
+    Ok(())
 }
 
 // The time of the clock, in ticks.
 fn time_of(run: &Run<'_>) -> u64 {
-    for entry in run.trace.clock.items().iter().rev() {
+    let mut now = 0;
+    for entry in run.trace.clock.items() {
         if let ClockReply::Now(time) = entry.reply {
-            return time;
+            now = time;
         }
     }
-    0
+    now
 }
 
 // The moment of the last alarm that a player has set.
 fn moment_of(run: &Run<'_>, player: usize) -> Option<u64> {
-    for entry in run.trace.clock.items().iter().rev() {
-        if entry.who.number as usize == player {
-            if let ClockReply::At(moment) = entry.reply {
-                return Some(moment);
-            }
+    let mut last = None;
+    for entry in run.trace.clock.items() {
+        match entry.reply {
+            ClockReply::At(moment) if entry.who.number as usize == player => last = Some(moment),
+            _ => {}
         }
     }
-    None
+    last
 }
 
 /// Whether a player's wait ends by itself after some ticks.
 fn has_deadline(run: &Run<'_>, player: usize) -> bool {
-    match run.waiting(player) {
-        Some(call) => match timeout_of(call) {
-            Some(Timeout::Ticks(_)) => true,
-            _ => false,
-        },
-        None => false,
+    let Some(call) = run.waiting(player) else {
+        return false;
+    };
+    for arg in said_of(call).args {
+        if let Some(Arg::Wait(Timeout::Ticks(_))) = arg {
+            return true;
+        }
     }
-}
-
-fn timeout_of(call: &Call) -> Option<Timeout> {
-    match call {
-        Call::Take(_, timeout) => Some(*timeout),
-        Call::Put(_, _, timeout) => Some(*timeout),
-        Call::Get(_, timeout) => Some(*timeout),
-        Call::Poll(timeout, _) => Some(*timeout),
-        Call::Claim(_, timeout) => Some(*timeout),
-        Call::Publish(_, _, timeout) => Some(*timeout),
-        Call::Notify(_, timeout) => Some(*timeout),
-        Call::Read(_, timeout) => Some(*timeout),
-        Call::SubWait(_, timeout) => Some(*timeout),
-        _ => None,
-    }
+    false
 }
 
 fn tick_ahead(run: &Run<'_>, open: &[usize]) -> Option<(usize, Place)> {
     for player in open {
         if let Some(stand) = run.stand(*player) {
-            if let Some(place) = first_tick(run.scenario, stand) {
+            if let Some(place) = first_ahead(run.scenario, stand, Sought::Tick) {
                 return Some((*player, place));
             }
         }
@@ -101,72 +88,63 @@ fn tick_ahead(run: &Run<'_>, open: &[usize]) -> Option<(usize, Place)> {
 }
 
 // Whose waits would end by ticks, and the first delay that would.
-fn put_deadlines(
-    out: &mut Vec<u8>,
-    run: &Run<'_>,
-    open: &[usize],
-    delayed: Option<u32>,
-) -> Result<(), NoMemory> {
-    let mut named: usize = 0;
+fn tell_deadlines(story: &mut Story, run: &Run<'_>, open: &[usize], delayed: Option<u32>) {
+    let mut told = Told::TicksEndWait;
+    let mut told_delay = Told::TicksEndDelay;
     for player in open {
         if has_deadline(run, *player) {
-            put(
-                out,
-                if named == 0 {
-                    b". By ticks would end the wait of "
-                } else {
-                    b", the wait of "
-                },
-            )?;
-            put_player(out, run.scenario, *player)?;
+            story.say(Saying::of(told).player(*player));
             if let Some(moment) = moment_of(run, *player) {
-                put(out, b" at ")?;
-                put_decimal(out, moment)?;
+                story.say(Saying::of(Told::AtTime).number(moment));
             }
-            named = named.saturating_add(1);
+            told = Told::TicksEndWaitToo;
+            told_delay = Told::TicksEndDelayToo;
         }
     }
-    match delayed {
-        Some(item) => {
-            put(
-                out,
-                if named == 0 {
-                    b". By ticks would end the delay of "
-                } else {
-                    b", the delay of "
-                },
-            )?;
-            put_object(out, run.scenario, item)
-        }
-        None => Ok(()),
+    if let Some(item) = delayed {
+        story.say(Saying::of(told_delay).object(Ref::Known(item)));
     }
 }
 
 /// The first item whose delay hasn't ended, by its object.
 fn first_delayed(run: &Run<'_>, alloc: Global) -> Result<Option<u32>, NoMemory> {
-    let mut delayed: Vec<bool> = Vec::with_capacity(alloc, run.scenario.items().len())?;
+    let mut delayed: Vec<bool> = Vec::new(alloc);
     for _ in run.scenario.items() {
         delayed.push(false)?;
     }
     for entry in run.trace.work.items() {
-        match (entry.op, &entry.reply) {
-            (WorkOp::Schedule(item, _, _), WorkReply::Armed) => set(&mut delayed, item, true),
-            (WorkOp::Reschedule(item, _, _), WorkReply::Armed) => set(&mut delayed, item, true),
-            (WorkOp::Reschedule(item, _, _), _) => set(&mut delayed, item, false),
-            (WorkOp::Cancel(item), _) => set(&mut delayed, item, false),
-            (WorkOp::CancelStart(item), _) => set(&mut delayed, item, false),
-            (WorkOp::FlushStart(item), _) => set(&mut delayed, item, false),
-            (_, WorkReply::Now(_, expiries)) => {
-                for expiry in expiries.items() {
-                    set(&mut delayed, expiry.item, false);
-                }
-            }
-            _ => {}
+        match delay_after(entry.op, &entry.reply) {
+            Some((item, to)) => set(&mut delayed, item, to),
+            None => end_delays(&mut delayed, &entry.reply),
         }
     }
-    match delayed.iter().position(|is_delayed| *is_delayed) {
-        Some(item) => Ok(run.scenario.items().get(item).copied()),
-        None => Ok(None),
+    for (item, is_delayed) in delayed.iter().enumerate() {
+        if *is_delayed {
+            return Ok(run.scenario.items().get(item).copied());
+        }
+    }
+    Ok(None)
+}
+
+// The item whose delay a call has begun, or ended.
+fn delay_after(op: WorkOp, reply: &WorkReply) -> Option<(u32, bool)> {
+    match (op, reply) {
+        (WorkOp::Schedule(item, _, _), WorkReply::Armed) => Some((item, true)),
+        (WorkOp::Reschedule(item, _, _), WorkReply::Armed) => Some((item, true)),
+        (WorkOp::Reschedule(item, _, _), _) => Some((item, false)),
+        (WorkOp::Cancel(item), _) => Some((item, false)),
+        (WorkOp::CancelStart(item), _) => Some((item, false)),
+        (WorkOp::FlushStart(item), _) => Some((item, false)),
+        _ => None,
+    }
+}
+
+// Those that are over by an announce.
+fn end_delays(delayed: &mut [bool], reply: &WorkReply) {
+    if let WorkReply::Now(_, expiries) = reply {
+        for expiry in expiries.items() {
+            set(delayed, expiry.item, false);
+        }
     }
 }
 

@@ -1,11 +1,13 @@
 ghost use Rattle.std.specs.Prelude.{◌≡◌, OnOk};
 ghost use Rattle.zk_base.specs.Fronts.{StaysInFront};
-ghost use Rattle.zk_show_why.specs.Sentences.{ending_words, TellsWhy};
+ghost use Rattle.zk_show_why.specs.Sentences.{TellsWhy};
 
-use crate::circle::put_circles;
+use crate::circle::tell_circles;
 use crate::run::Run;
 use crate::sentences::put_sentences;
-use crate::still::put_time;
+use crate::still::tell_time;
+use crate::story::Story;
+use crate::words::ending_words;
 use std::alloc::Global;
 use zk_base::{NoMemory, put};
 use zk_scenario::Scenario;
@@ -19,7 +21,7 @@ pub fn put_why(out: &mut Vec<u8>, scenario: &Scenario, trace: &Trace) -> Result<
     ensures kept { StaysInFront out.old.items out.new.items }
 {
     let run = Run::of(*out.allocator(), scenario, trace)?;
-    put(out, ending_text(trace.ending))?;
+    put(out, ending_words(trace.ending))?;
     put_sentences(out, &run, PlayerState::Spent)?;
     put_sentences(out, &run, PlayerState::Standing)?;
     put_sentences(out, &run, PlayerState::Oops)?;
@@ -33,23 +35,11 @@ pub fn put_why(out: &mut Vec<u8>, scenario: &Scenario, trace: &Trace) -> Result<
     }
 }
 
-fn ending_text(ending: Ending) -> &'static [u8]
-    ensures { result.now ≡ ending_words ending }
-{
-    match ending {
-        Ending::Ended => {
-            b"ended: each thread is through or was ended by an oops, and no admission waits.\n"
-        }
-        Ending::Stuck => b"stuck: no player can go on.\n",
-        Ending::Spent => b"spent: a player has made all its steps.\n",
-    }
-}
-
 // Who waits for each other, and whether time stands still.
 fn stuck_told(alloc: Global, run: &Run<'_>) -> Result<Vec<u8>, NoMemory> {
-    let mut out = Vec::new(alloc);
+    let mut story = Story::new(alloc);
     let open = run.players_in(alloc, PlayerState::Standing)?;
-    put_circles(&mut out, run, &open)?;
-    put_time(&mut out, run, &open)?;
-    Ok(out)
+    tell_circles(alloc, &mut story, run, &open)?;
+    tell_time(alloc, &mut story, run, &open)?;
+    story.text(alloc, run.scenario)
 }
