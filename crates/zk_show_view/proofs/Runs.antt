@@ -34,6 +34,14 @@ traced-view view s t front trace output read spelled same form short shows = rec
   shows = shows;
 }
 
+-- of a scenario alone nothing is a trace
+played-parts : (input : List ℕ) (s : Content) (t : Trace) → scenario_of input ≡ Ok s →
+    AreParts input (text_of s) [] × (scenario_of (text_of s) ≡ Ok s)
+played-parts input s t read =
+    let is : input ≡ text_of s = text_of-read input s read in
+    let good : scenario_of (text_of s) ≡ Ok s = ap scenario_of (sym is) ∙ read in
+    (record { whole = is ∙ sym (append-nil (text_of s)); before = (run-parts s t good).before; begins = inl refl }, good)
+
 -- the parts of an input that has a run: the scenario's text, and a trace or nothing behind it
 parts-of : (input : List ℕ) (s : Content) (t : Trace) → IsRunOf input s t →
     (trace : List ℕ) × AreParts input (text_of s) trace × (scenario_of (text_of s) ≡ Ok s)
@@ -42,10 +50,7 @@ parts-of input s t (traced given) = (
   subst (λ (x : List ℕ). AreParts x (text_of s) (trace_text s t)) (sym given.text) (run-parts s t given.scenario),
   given.scenario,
 )
-parts-of input s t (played short read run) =
-    let is : input ≡ text_of s = text_of-read input s read in
-    let good : scenario_of (text_of s) ≡ Ok s = ap scenario_of (sym is) ∙ read in
-    ([], record { whole = is ∙ sym (append-nil (text_of s)); before = (run-parts s t good).before; begins = inl refl }, good)
+parts-of input s t (played short read run) = let it = played-parts input s t read in ([], it.0, it.1)
 
 -- what is told of an input above the limit
 pub told-long : (input told : List ℕ) → LONGEST_TRACE < length input → StaysInFront (refusal_head 0 reasons.Length) told →
@@ -79,6 +84,6 @@ told-trace front trace told s line read parts short behind none refused says = r
   never : (other : Content) (t : Trace) → IsRunOf (front ++ trace) other t → ⊥
   never other t (traced given) = (trace-refused front trace told s line read parts short none refused says).never other t given
   never other t (played within whole run) =
-      let it = parts-of (front ++ trace) other t (played within whole run) in
-      let same = one-parting (front ++ trace) front trace (text_of other) [] parts it.1 in
+      let it = played-parts (front ++ trace) other t whole in
+      let same = one-parting (front ++ trace) front trace (text_of other) [] parts it.0 in
       omega (arith, behind, ap length same.1)

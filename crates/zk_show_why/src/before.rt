@@ -1,5 +1,6 @@
+use crate::text::Text;
 use std::alloc::Global;
-use zk_base::{NoMemory, put};
+use zk_base::NoMemory;
 use zk_scenario::{Decl, Scenario, ScenarioRefused, Why, read_scenario};
 
 /// What the lines before a refused one say.
@@ -26,10 +27,10 @@ impl Before {
 
     // The same of a text whose last script is open.
     fn with_end(alloc: Global, front: &[u8]) -> Result<Option<Before>, NoMemory> {
-        let mut text = Vec::new(alloc);
-        put(&mut text, front)?;
-        put(&mut text, b"end\n")?;
-        match read_scenario(alloc, &text) {
+        let mut text = Text::new(alloc);
+        text.put(front);
+        text.put(b"end\n");
+        match read_scenario(alloc, &text.whole()?) {
             Ok(scenario) => Ok(Some(Before {
                 scenario,
                 is_open: true,

@@ -1,26 +1,23 @@
 use crate::run::Run;
 use crate::story::{Saying, Story};
 use crate::words::Told;
-use std::alloc::Global;
-use zk_base::NoMemory;
+use zk_base::MOST_PLAYERS;
+
+const PLAYERS: usize = MOST_PLAYERS as usize;
 
 /// Tells of the circles of players each of whom waits for the next, a line for each.
-pub fn tell_circles(
-    alloc: Global,
-    story: &mut Story,
-    run: &Run<'_>,
-    open: &[usize],
-) -> Result<(), NoMemory> {
-    let mut enders = Vec::new(alloc);
+pub fn tell_circles(story: &mut Story, run: &Run<'_>, open: &[usize]) {
+    let mut enders: [Option<usize>; PLAYERS] = [None; PLAYERS];
     for player in 0..run.players() {
-        enders.push(run.ender(player))?;
+        if let Some(place) = enders.get_mut(player) {
+            *place = run.ender(player);
+        }
     }
     for player in open {
         if is_first_in_circle(&enders, *player) {
             tell_circle(story, &enders, *player);
         }
     }
-    Ok(())
 }
 
 // The only one who could end a player's wait.

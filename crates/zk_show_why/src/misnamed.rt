@@ -24,10 +24,12 @@ pub fn name_finding(
         if let Some(finding) = part_finding(before, behind, part) {
             return finding;
         }
-        if is_observer(part.slot) {
-            if let Some(again) = same_name(part.word.text, &left) {
-                return Finding::on(Cause::ObserverTwice, again, Accepted::Once);
-            }
+        let again = match part.slot {
+            Slot::Object(Need::Obs) => same_name(part.word.text, &left),
+            _ => None,
+        };
+        if let Some(again) = again {
+            return Finding::on(Cause::ObserverTwice, again, Accepted::Once);
         }
     }
     match parts.head {
@@ -113,13 +115,6 @@ fn is_declared_in(lines: &[u8], name: &[u8]) -> bool {
         }
     }
     false
-}
-
-fn is_observer(slot: Slot) -> bool {
-    match slot {
-        Slot::Object(Need::Obs) => true,
-        _ => false,
-    }
 }
 
 // The next word that names the same observer.

@@ -52,17 +52,22 @@ pub fn put_refusal(out: &mut Vec<u8>, text: &[u8], line: u32, why: Why) -> Resul
 fn refusal_told(alloc: Global, text: &[u8], line: u32, why: Why) -> Result<Vec<u8>, NoMemory> {
     let refused = refused_line(text, line);
     let before = Before::of(alloc, refused.front)?;
-    let finding = finding_of(refused, text, before.as_ref(), why);
     let mut told = Text::new(alloc);
+    tell_refused(&mut told, refused, before.as_ref(), why);
+    told.whole()
+}
+
+// With what the lines before it say.
+fn tell_refused(told: &mut Text, refused: Refused<'_>, before: Option<&Before>, why: Why) {
+    let finding = finding_of(refused, before, why);
     if why != Why::Length {
-        put_marked(&mut told, refused.line, finding.mark);
+        put_marked(told, refused.line, finding.mark);
     }
     told.put(finding.cause.sentence());
     told.put(ACCEPTED);
-    put_accepted(&mut told, before.as_ref(), finding.accepted);
-    put_in_form(&mut told, finding);
+    put_accepted(told, before, finding.accepted);
+    put_in_form(told, finding);
     told.put(END);
-    told.whole()
 }
 
 // The form of the whole line, unless it was said.
@@ -103,10 +108,10 @@ fn refused_line(text: &[u8], line: u32) -> Refused<'_> {
     }
 }
 
-fn finding_of(refused: Refused<'_>, text: &[u8], before: Option<&Before>, why: Why) -> Finding {
+fn finding_of(refused: Refused<'_>, before: Option<&Before>, why: Why) -> Finding {
     match why {
         Why::Length => Finding::unmarked(Cause::TooLong, Accepted::WholeText),
-        Why::Header => header_finding(refused, text),
+        Why::Header => header_finding(refused),
         Why::Line => line_finding(refused),
         _ => match before {
             Some(before) => formed_finding(refused, before, why),
@@ -115,8 +120,9 @@ fn finding_of(refused: Refused<'_>, text: &[u8], before: Option<&Before>, why: W
     }
 }
 
-fn header_finding(refused: Refused<'_>, text: &[u8]) -> Finding {
-    if text.is_empty() {
+fn header_finding(refused: Refused<'_>) -> Finding {
+    // The first line is empty, and has no line feed.
+    if refused.line.is_empty() && !refused.fed {
         return Finding::unmarked(Cause::Empty, Accepted::Header);
     }
     match surface_finding(refused.line) {

@@ -167,9 +167,8 @@ pub fn first_in_handlers(scenario: &Scenario, sought: Sought<'_>) -> Option<Plac
     for script in scenario.scripts() {
         let owner = script.owner;
         let found = match scenario.decls().get(owner as usize) {
-            Some(Decl::Item(_)) => first_from(scenario, Place { owner, next: 0 }, sought),
-            Some(Decl::Listener(_)) => first_from(scenario, Place { owner, next: 0 }, sought),
-            _ => None,
+            Some(Decl::Thread(_, _, _)) => None,
+            _ => first_from(scenario, Place { owner, next: 0 }, sought),
         };
         if found.is_some() {
             return found;

@@ -3,30 +3,23 @@ use crate::run::Run;
 use crate::serving::{Sought, first_ahead};
 use crate::story::{Saying, Story};
 use crate::words::Told;
-use std::alloc::Global;
-use zk_base::NoMemory;
 use zk_line::{Arg, said_of};
 use zk_model_wait::ClockReply;
 use zk_model_work::{WorkOp, WorkReply};
-use zk_scenario::Ref;
+use zk_scenario::{MOST_ITEMS, Ref};
 use zk_words::Timeout;
 
 /// Tells that time stands still, where a wait has a deadline or an item is delayed.
-pub fn tell_time(
-    alloc: Global,
-    story: &mut Story,
-    run: &Run<'_>,
-    open: &[usize],
-) -> Result<(), NoMemory> {
+pub fn tell_time(story: &mut Story, run: &Run<'_>, open: &[usize]) {
     let mut until: usize = 0;
     for player in open {
         if has_deadline(run, *player) {
             until = until.saturating_add(1);
         }
     }
-    let delayed = first_delayed(run, alloc)?;
+    let delayed = first_delayed(run);
     if until == 0 && delayed.is_none() {
-        return Ok(());
+        return;
     }
     let still = match tick_ahead(run, open) {
         Some((player, place)) => Saying::of(Told::TickAhead).player(player).line(place),
@@ -37,7 +30,6 @@ pub fn tell_time(
     story.say(Saying::of(Told::ItIs).number(time_of(run)));
     tell_deadlines(story, run, open, delayed);
     story.say(Saying::of(Told::LineEnd));
-    Ok(())
 }
 
 // The time of the clock, in ticks.
@@ -107,11 +99,8 @@ fn tell_deadlines(story: &mut Story, run: &Run<'_>, open: &[usize], delayed: Opt
 }
 
 /// The first item whose delay hasn't ended, by its object.
-fn first_delayed(run: &Run<'_>, alloc: Global) -> Result<Option<u32>, NoMemory> {
-    let mut delayed: Vec<bool> = Vec::new(alloc);
-    for _ in run.scenario.items() {
-        delayed.push(false)?;
-    }
+fn first_delayed(run: &Run<'_>) -> Option<u32> {
+    let mut delayed: [bool; MOST_ITEMS] = [false; MOST_ITEMS];
     for entry in run.trace.work.items() {
         match delay_after(entry.op, &entry.reply) {
             Some((item, to)) => set(&mut delayed, item, to),
@@ -120,10 +109,10 @@ fn first_delayed(run: &Run<'_>, alloc: Global) -> Result<Option<u32>, NoMemory> 
     }
     for (item, is_delayed) in delayed.iter().enumerate() {
         if *is_delayed {
-            return Ok(run.scenario.items().get(item).copied());
+            return run.scenario.items().get(item).copied();
         }
     }
-    Ok(None)
+    None
 }
 
 // The item whose delay a call has begun, or ended.

@@ -21,14 +21,21 @@ pub fn put_why(out: &mut Vec<u8>, scenario: &Scenario, trace: &Trace) -> Result<
     ensures kept { StaysInFront out.old.items out.new.items }
 {
     let run = Run::of(*out.allocator(), scenario, trace)?;
-    put(out, ending_words(trace.ending))?;
-    put_sentences(out, &run, PlayerState::Spent)?;
-    put_sentences(out, &run, PlayerState::Standing)?;
-    put_sentences(out, &run, PlayerState::Oops)?;
-    match trace.ending {
+    put_told(out, &run)
+}
+
+fn put_told(out: &mut Vec<u8>, run: &Run<'_>) -> Result<(), NoMemory>
+    ensures told { OnOk result (TellsWhy run.now.scenario.now.decls run.now.trace.now out.old.items out.new.items) }
+    ensures kept { StaysInFront out.old.items out.new.items }
+{
+    put(out, ending_words(run.trace.ending))?;
+    put_sentences(out, run, PlayerState::Spent)?;
+    put_sentences(out, run, PlayerState::Standing)?;
+    put_sentences(out, run, PlayerState::Oops)?;
+    match run.trace.ending {
         Ending::Ended => Ok(()),
         Ending::Stuck => {
-            let told = stuck_told(*out.allocator(), &run)?;
+            let told = stuck_told(*out.allocator(), run)?;
             put(out, &told)
         }
         Ending::Spent => Ok(()),
@@ -37,9 +44,9 @@ pub fn put_why(out: &mut Vec<u8>, scenario: &Scenario, trace: &Trace) -> Result<
 
 // Who waits for each other, and whether time stands still.
 fn stuck_told(alloc: Global, run: &Run<'_>) -> Result<Vec<u8>, NoMemory> {
-    let mut story = Story::new(alloc);
     let open = run.players_in(alloc, PlayerState::Standing)?;
-    tell_circles(alloc, &mut story, run, &open)?;
-    tell_time(alloc, &mut story, run, &open)?;
+    let mut story = Story::new(alloc);
+    tell_circles(&mut story, run, &open);
+    tell_time(&mut story, run, &open);
     story.text(alloc, run.scenario)
 }

@@ -17,15 +17,13 @@ fn a_look_shows_what_another_submitted(rt: HostRuntime) -> Result<(), Fail> {
     let (first, second) = two_callers(&cell, PLAYER, OTHER, passes);
     let Caller { who: _, mut pass } = second;
     let mut held = cell.enter(&rt, first.pass);
-    let before = (held.at(), held.service().word(1), held.word(1));
-    let first = cell.leave(held);
-    let mut held = cell.enter(&rt, first);
+    let before = held.at();
     let answer = held.act(0, WorkOp::Submit(1, Some(0)));
     let after = held.at();
     let within = cell.look(&mut pass, 1);
     let mut first = cell.leave(held);
     assert!(rt; answer?.is_some());
-    assert!(rt; (before, after) == ((0, 0, 0), 1));
+    assert!(rt; (before, after) == (0, 1));
     assert!(rt;
         within == Look { word: 0, at: 0 },
         "an entry isn't shown before its turn is over"
@@ -39,6 +37,10 @@ fn a_look_shows_what_another_submitted(rt: HostRuntime) -> Result<(), Fail> {
         "no look goes back behind that"
     );
     cell.join(&mut first, pass);
+    let mut held = cell.enter(&rt, first);
+    let found = (held.at(), held.service().word(1), held.word(1));
+    let first = cell.leave(held);
+    assert!(rt; found == (1, 4, 4));
     let history = cell.close(first).into_history();
     assert!(rt; history.len() == 1);
     Ok(())
