@@ -1,4 +1,4 @@
-ghost use Rattle.std.specs.Prelude.{◌≡◌, ◌≢◌, ◌⊎◌, ◌<◌, ◌≤◌, ◌++◌, None, Some, Ok, length, map, string_bytes, IfOk};
+ghost use Rattle.std.specs.Prelude.{◌≡◌, ◌≢◌, ◌⊎◌, ◌+◌, ◌<◌, ◌≤◌, ◌++◌, None, Some, Ok, length, map, string_bytes, IfOk};
 ghost use Rattle.std.specs.Io.KnownBytes.{Appends, Keeps};
 ghost use Rattle.zk_base.specs.Causes.{Rose};
 ghost use Rattle.zk_base.specs.Fronts.{StaysInFront};
@@ -9,6 +9,7 @@ ghost use Rattle.zk_trace.specs.Parting.{AreParts};
 ghost use Rattle.zk_trace.specs.Text.{trace_text};
 ghost use Rattle.zk_show_why.specs.Refusal.{refusal_head};
 ghost use Rattle.zk_forms.specs.declared.form.TheConstants.{LONGEST_TRACE};
+ghost use Rattle.zk_forms.specs.Input.{GaveAtMost};
 ghost use Rattle.zk_forms.specs.Output.{AppendsFront};
 ghost use Rattle.zk_forms.specs.Top.{Prints, words_refused};
 ghost use Rattle.zk_show_view.specs.declared.view.View.{View};
@@ -53,6 +54,13 @@ pub fn zk_show<S: Source, K: Sink>(
     ensures read_fault { result ≡ Status.ReadFault → Rose (S.faults source.old) (S.faults source.new) }
     ensures write_fault { result ≡ Status.WriteFault → Rose (K.faults sink.old) (K.faults sink.new) }
 
+    // Each count of faults stays but for its own status.
+    ensures reads { result ≢ Status.ReadFault → S.faults source.new ≡ S.faults source.old }
+    ensures writes { result ≢ Status.WriteFault → K.faults sink.new ≡ K.faults sink.old }
+
+    // However it ends, no more is taken of the source than one byte above the limit.
+    ensures most { GaveAtMost (LONGEST_TRACE + 1) (S.left source.old) (S.left source.new) }
+
     // Where nothing, or not all, was written.
     ensures nothing { (result ≡ Status.ReadFault) ⊎ (result ≡ Status.NoMemory) →
         Keeps (K.held sink.old) (K.held sink.new) }
@@ -69,6 +77,9 @@ pub fn zk_show<S: Source, K: Sink>(
 fn answer<S: Source, K: Sink>(alloc: Global, view: View, source: &mut S, sink: &mut K) -> Status
     ensures went { Went view (S.left source.old) (K.held sink.old) (K.held sink.new)
         (S.faults source.old) (S.faults source.new) (K.faults sink.old) (K.faults sink.new) result }
+    ensures reads { result ≢ Status.ReadFault → S.faults source.new ≡ S.faults source.old }
+    ensures writes { result ≢ Status.WriteFault → K.faults sink.new ≡ K.faults sink.old }
+    ensures most { GaveAtMost (LONGEST_TRACE + 1) (S.left source.old) (S.left source.new) }
 {
     match read_input(alloc, source, LONGEST_TRACE) {
         Ok(input) => show(alloc, view, input, sink),
@@ -80,6 +91,7 @@ fn answer<S: Source, K: Sink>(alloc: Global, view: View, source: &mut S, sink: &
 /// Prints a view of an input.
 fn show<K: Sink>(alloc: Global, view: View, input: Vec<u8>, sink: &mut K) -> Status
     ensures shows { Shows view input.items (K.held sink.old) (K.held sink.new) (K.faults sink.old) (K.faults sink.new) result }
+    ensures writes { result ≢ Status.WriteFault → K.faults sink.new ≡ K.faults sink.old }
 {
     match shown(alloc, view, input) {
         Ok((output, status)) => write_made(sink, &output, status),
@@ -92,6 +104,7 @@ fn write_made<K: Sink>(sink: &mut K, output: &[u8], status: Status) -> Status
     ensures whole { result ≢ Status.WriteFault → (result ≡ status) × Appends (K.held sink.old) (K.held sink.new) output.now }
     ensures front { AppendsFront (K.held sink.old) (K.held sink.new) output.now }
     ensures fault { result ≡ Status.WriteFault → (status ≡ Status.WriteFault) ⊎ Rose (K.faults sink.old) (K.faults sink.new) }
+    ensures writes { result ≢ Status.WriteFault → K.faults sink.new ≡ K.faults sink.old }
 {
     match write_text(sink, output) {
         Ok(()) => status,
