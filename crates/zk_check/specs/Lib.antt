@@ -1,4 +1,5 @@
 pub mod Checking
+pub mod Rows
 pub use Rattle.zk_failures.specs.Failure
 pub use Rattle.zk_failures.specs.LineOf
 pub use Rattle.zk_failures.specs.Lines
