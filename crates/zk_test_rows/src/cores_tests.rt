@@ -76,17 +76,31 @@ impl Gate for HeldGate {
     }
 }
 
-/// What two cores print of the scenario behind this gate, if they print a whole trace.
-fn printed<R: Threads + Wait + Sync>(
+/// Counts the passes of all cores.
+#[derive(Drop)]
+struct CountingGate {
+    passes: AtomicU64,
+}
+
+impl Gate for CountingGate {
+    fn pass(&self, _core: u32, _step: u64) {
+        self.passes.fetch_add(1, SeqCst);
+    }
+}
+
+/// What so many cores print of the scenario behind this gate, if they print a whole trace.
+fn printed<R: Threads + Wait + Sync, G: Gate + Sync>(
     rt: &R,
     alloc: Global,
-    gate: &HeldGate,
+    cores: &str,
+    scenario: &str,
+    gate: &G,
 ) -> Result<Option<SureSink>, NoMemory> {
     let words = vec![in alloc;
         String::from_str(alloc, "run")?,
-        String::from_str(alloc, "2")?,
+        String::from_str(alloc, cores)?,
     ]?;
-    let mut source = SureSource::new(text_of(alloc, &[GIVES])?, 100);
+    let mut source = SureSource::new(text_of(alloc, &[scenario])?, 100);
     let mut sink = SureSink::new(Vec::with_capacity(alloc, ROOM)?, 100);
     let status = zk_run(rt, alloc, &words, &mut source, &mut sink, gate);
     Ok((status == Status::Success).then_some(sink))
@@ -97,12 +111,31 @@ fn printed<R: Threads + Wait + Sync>(
 #[test]
 fn gate_forces_an_order(rt: HostRuntime) -> Result<(), Fail> {
     let gate = HeldGate::new();
-    let Some(sink) = printed(&rt, rt.alloc(), &gate)? else {
+    let Some(sink) = printed(&rt, rt.alloc(), "2", GIVES, &gate)? else {
         return Err(Fail::from("no trace"));
     };
     assert!(rt; gate.given_up.load(SeqCst) == 0);
     let one = text_of(rt.alloc(), &[GIVES, FIRST_FIRST])?;
     let other = text_of(rt.alloc(), &[GIVES, SECOND_FIRST])?;
     assert!(rt; sink.held() == one.as_slice() || sink.held() == other.as_slice());
+    Ok(())
+}
+
+/// Calls behind a wait without an end, which another thread ends.
+const WAITS: &str =
+    "zk 1\nthread t0 0 super\nthread t1 0 super\nsem s0 0 10\nscript t0\ntake s0 forever\n\
+     count s0\ncount s0\ncount s0\ncount s0\ncount s0\ncount s0\ncount s0\ncount s0\n\
+     count s0\ncount s0\ncount s0\ncount s0\ncount s0\ncount s0\ncount s0\ncount s0\nend\n\
+     script t1\ncount s0\ncount s0\ncount s0\ngive s0\nend\n";
+
+/// A core that never learnt that a waiting thread has news would leave the sixteen calls behind its wait to what is played once the
+/// cores have ended, behind no gate.
+#[test]
+fn a_wait_that_ends_is_played_by_its_core(rt: HostRuntime) -> Result<(), Fail> {
+    let gate = CountingGate {
+        passes: AtomicU64::new(0),
+    };
+    assert!(rt; printed(&rt, rt.alloc(), "1", WAITS, &gate)?.is_some());
+    assert!(rt; gate.passes.load(SeqCst) >= 20);
     Ok(())
 }
