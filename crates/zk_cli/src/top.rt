@@ -4,7 +4,7 @@ ghost use Rattle.zk_base.specs.Causes.{Rose};
 ghost use Rattle.zk_forms.specs.Input.{GaveAtMost};
 ghost use Rattle.zk_forms.specs.Output.{AppendsFront};
 ghost use Rattle.zk_forms.specs.declared.form.Form.TheVariants.{Replay, Check};
-ghost use Rattle.zk_forms.specs.Top.{form_of, input_of, IsOutputOf, words_refused, Prints, PrintsFront, HasReadAll, HasInput, MayEnd, CallOutcome, most_taken};
+ghost use Rattle.zk_forms.specs.Top.{form_of, input_of, IsOutputOf, words_refused, Prints, PrintsFront, HasReadAll, IsAnswer, HasInput, MayEnd, CallOutcome, most_taken};
 
 use std::alloc::Global;
 use zk_base::{Sink, Source, Status};
@@ -27,17 +27,9 @@ pub fn zk_plain<S: Source, K: Sink>(
     source: &mut S,
     sink: &mut K,
 ) -> Status
-    // What each status that prints says of the input and the output.
-    ensures success { (form : Form) → form_of (map string_bytes words.now) ≡ Some form → result ≡ Status.Success →
-        Prints (input_of form (S.left source.old)) (K.held sink.old) (K.held sink.new) (IsOutputOf form Status.Success) }
-    ensures stuck { (form : Form) → form_of (map string_bytes words.now) ≡ Some form → result ≡ Status.Stuck →
-        Prints (input_of form (S.left source.old)) (K.held sink.old) (K.held sink.new) (IsOutputOf form Status.Stuck) }
-    ensures spent { (form : Form) → form_of (map string_bytes words.now) ≡ Some form → result ≡ Status.Spent →
-        Prints (input_of form (S.left source.old)) (K.held sink.old) (K.held sink.new) (IsOutputOf form Status.Spent) }
-    ensures unlawful { (form : Form) → form_of (map string_bytes words.now) ≡ Some form → result ≡ Status.Unlawful →
-        Prints (input_of form (S.left source.old)) (K.held sink.old) (K.held sink.new) (IsOutputOf form Status.Unlawful) }
-    ensures refused { (form : Form) → form_of (map string_bytes words.now) ≡ Some form → result ≡ Status.Refused →
-        Prints (input_of form (S.left source.old)) (K.held sink.old) (K.held sink.new) (IsOutputOf form Status.Refused) }
+    // What each status that prints a form's whole output says of it and the input.
+    ensures prints { (form : Form) → form_of (map string_bytes words.now) ≡ Some form → IsAnswer result →
+        Prints (input_of form (S.left source.old)) (K.held sink.old) (K.held sink.new) (IsOutputOf form result) }
     ensures words { result ≡ Status.Words → Appends (K.held sink.old) (K.held sink.new) words_refused }
 
     // When each status comes.

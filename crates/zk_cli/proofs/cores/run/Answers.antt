@@ -1,4 +1,4 @@
-use Rattle.std.proofs.Common.{Option, Some, None, ap, sym, ◌∙◌}
+use Rattle.std.proofs.Common.{Some, None, ap, sym, ◌∙◌}
 use Rattle.std.specs.Option.{option_map}
 use Rattle.zk_forms.specs.declared.form.Form.TheVariants.{Run}
 use Rattle.zk_forms.proofs.Outcomes.{Went-refused, Went-for, taken-for, taken-none}

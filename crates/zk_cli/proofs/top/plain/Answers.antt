@@ -1,6 +1,6 @@
 use Rattle.std.proofs.Common.{[], Some, ap, sym, ◌∙◌}
 use Rattle.zk_forms.specs.declared.form.Form.TheVariants.{Soak}
-use Rattle.zk_forms.proofs.Outcomes.{Went-refused, Went-soaked, Went-for, taken-for, taken-none, never-cores}
+use Rattle.zk_forms.proofs.Outcomes.{Went-refused, Went-soaked, Went-for, taken-for, taken-none}
 use Rattle.zk_cli.proofs.top.plain.Goals as goal
 
 pub returns-in-None-clause-went : goal.returns-in-None-clause-went

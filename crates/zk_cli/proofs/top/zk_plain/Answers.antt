@@ -1,21 +1,9 @@
-use Rattle.zk_base.specs.declared.errors.Status.TheVariants.{Success, Stuck, Spent, Refused, Unlawful}
+use Rattle.std.proofs.Common.{refl}
 use Rattle.zk_forms.proofs.Outcomes.{Went-prints, Went-words, Went-no_form, Went-complete, Went-read_fault, Went-write_fault, Went-nothing, Went-front, Went-words_front, Went-read}
 use Rattle.zk_cli.proofs.top.zk_plain.Goals as goal
 
-pub returns-clause-success : goal.returns-clause-success
-returns-clause-success g c = λ form asked. Went-prints _ _ _ _ _ _ _ _ _ form _ Success c.plain.ensures.went asked tt
-
-pub returns-clause-stuck : goal.returns-clause-stuck
-returns-clause-stuck g c = λ form asked. Went-prints _ _ _ _ _ _ _ _ _ form _ Stuck c.plain.ensures.went asked tt
-
-pub returns-clause-spent : goal.returns-clause-spent
-returns-clause-spent g c = λ form asked. Went-prints _ _ _ _ _ _ _ _ _ form _ Spent c.plain.ensures.went asked tt
-
-pub returns-clause-refused : goal.returns-clause-refused
-returns-clause-refused g c = λ form asked. Went-prints _ _ _ _ _ _ _ _ _ form _ Refused c.plain.ensures.went asked tt
-
-pub returns-clause-unlawful : goal.returns-clause-unlawful
-returns-clause-unlawful g c = λ form asked. Went-prints _ _ _ _ _ _ _ _ _ form _ Unlawful c.plain.ensures.went asked tt
+pub returns-clause-prints : goal.returns-clause-prints
+returns-clause-prints g c = λ form asked is. Went-prints _ _ _ _ _ _ _ _ _ form _ _ c.plain.ensures.went asked is refl
 
 pub returns-clause-words : goal.returns-clause-words
 returns-clause-words g c = λ same. (Went-words _ _ _ _ _ _ _ _ _ _ c.plain.ensures.went same).1
