@@ -4,7 +4,7 @@ ghost use Rattle.zk_model_wait.specs.declared.clock.ClockOp.TheVariants.{Announc
 ghost use Rattle.zk_model_wait.specs.Clock.{clock_machine};
 ghost use Rattle.zk_time.specs.ClockSeen.{clock_start};
 ghost use Rattle.zk_turn.specs.Passes.{IsNewPass, IsPassOf, pass_players, given_to};
-ghost use Rattle.zk_uses.specs.Callers.{AreNew};
+ghost use Rattle.zk_uses.specs.Callers.{AreNew, HaveCalled};
 
 use crate::often::{Caller, call_often};
 use std::sync::Wait;
@@ -27,6 +27,7 @@ pub fn ticked_by_two<R: Threads + Wait + Sync>(
     requires new { AreNew (IsLegal clock_machine) clock_start cell.now first second }
     ensures own { IsPassOf (IsLegal clock_machine) clock_start cell.now result }
     ensures players { pass_players result ≡ first.who ∷ second.who ∷ [] }
+    ensures called { HaveCalled 2 times result }
 {
     let (mut both, other) = thread::join(
         rt,
@@ -36,6 +37,7 @@ pub fn ticked_by_two<R: Threads + Wait + Sync>(
             requires new { IsNewPass (IsLegal clock_machine) clock_start cell.now first.who first.pass }
             ensures own { IsPassOf (IsLegal clock_machine) clock_start cell.entry.now result }
             ensures players { pass_players result ≡ first.who ∷ [] }
+            ensures called { HaveCalled 1 times result }
         { call_often(rt, cell, first, ClockOp::Announce(1), times) },
         move ||
             requires times { times ≤ 20000 }
@@ -43,6 +45,7 @@ pub fn ticked_by_two<R: Threads + Wait + Sync>(
             requires new { IsNewPass (IsLegal clock_machine) clock_start cell.now second.who second.pass }
             ensures own { IsPassOf (IsLegal clock_machine) clock_start cell.entry.now result }
             ensures players { pass_players result ≡ second.who ∷ [] }
+            ensures called { HaveCalled 1 times result }
         { call_often(rt, cell, second, ClockOp::Announce(1), times) },
     );
     cell.join(&mut both, other);

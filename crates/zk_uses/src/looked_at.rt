@@ -6,7 +6,7 @@ ghost use Rattle.zk_model_work.specs.Machine.{work_machine};
 ghost use Rattle.zk_work.specs.Seen.{work_start};
 ghost use Rattle.zk_work.specs.Words.{work_word};
 ghost use Rattle.zk_turn.specs.Passes.{IsNewPass, IsPassOf, pass_players, given_to};
-ghost use Rattle.zk_uses.specs.Callers.{AreNew};
+ghost use Rattle.zk_uses.specs.Callers.{AreNew, HaveCalled};
 ghost use Rattle.zk_uses.specs.Looks.{AreReady, HasLooked, IsReady};
 
 use crate::looking::{Looker, look_often};
@@ -60,6 +60,7 @@ pub fn submitted_and_cancelled_by_two<R: Threads + Wait + Sync>(
     requires new { AreNew (IsLegal work_machine) work_start cell.now first second }
     ensures own { IsPassOf (IsLegal work_machine) work_start cell.now result }
     ensures players { pass_players result ≡ first.who ∷ second.who ∷ [] }
+    ensures called { HaveCalled 2 times result }
 {
     let (mut both, other) = thread::join(
         rt,
@@ -70,6 +71,7 @@ pub fn submitted_and_cancelled_by_two<R: Threads + Wait + Sync>(
             requires new { IsNewPass (IsLegal work_machine) work_start cell.now first.who first.pass }
             ensures own { IsPassOf (IsLegal work_machine) work_start cell.entry.now result }
             ensures players { pass_players result ≡ first.who ∷ [] }
+            ensures called { HaveCalled 1 times result }
         {
             call_in_turn(
                 rt,
@@ -86,6 +88,7 @@ pub fn submitted_and_cancelled_by_two<R: Threads + Wait + Sync>(
             requires new { IsNewPass (IsLegal work_machine) work_start cell.now second.who second.pass }
             ensures own { IsPassOf (IsLegal work_machine) work_start cell.entry.now result }
             ensures players { pass_players result ≡ second.who ∷ [] }
+            ensures called { HaveCalled 1 times result }
         {
             call_in_turn(
                 rt,
@@ -119,6 +122,7 @@ pub fn looked_at_meanwhile<R: Threads + Wait + Sync>(
     ensures second { HasLooked work_machine work_start work_word cell.now 0 lookers.1.who result.0.1 }
     ensures own { IsPassOf (IsLegal work_machine) work_start cell.now result.1 }
     ensures players { pass_players result.1 ≡ callers.0.who ∷ callers.1.who ∷ [] }
+    ensures called { HaveCalled 2 calls result.1 }
 {
     let (a, b) = lookers;
     let (c, d) = callers;
@@ -137,6 +141,7 @@ pub fn looked_at_meanwhile<R: Threads + Wait + Sync>(
             requires new { AreNew (IsLegal work_machine) work_start cell.now c d }
             ensures own { IsPassOf (IsLegal work_machine) work_start cell.entry.now result }
             ensures players { pass_players result ≡ c.who ∷ d.who ∷ [] }
+            ensures called { HaveCalled 2 calls result }
         { submitted_and_cancelled_by_two(rt, cell, c, d, calls) },
     )
 }

@@ -1,6 +1,7 @@
 ghost use Rattle.std.specs.Prelude.{◌≡◌, ◌≤◌, true, [], ◌∷◌};
 ghost use Rattle.zk_base.specs.Legal.{IsLegal};
 ghost use Rattle.zk_turn.specs.Passes.{IsNewPass, IsPassOf, pass_players, given_to};
+ghost use Rattle.zk_uses.specs.Callers.{HaveCalled};
 
 use std::sync::Wait;
 use zk_base::{Service, Who};
@@ -29,6 +30,7 @@ where
     requires range { S.machine.in_range (S.start (given_to cell.now)) op ≡ true }
     ensures own { IsPassOf (IsLegal S.machine) S.start cell.now result }
     ensures players { pass_players result ≡ caller.who ∷ [] }
+    ensures called { HaveCalled 1 times result }
 {
     let mut pass = caller.pass;
     for step in 0..times {
@@ -58,6 +60,7 @@ where
     requires second { S.machine.in_range (S.start (given_to cell.now)) ops.1 ≡ true }
     ensures own { IsPassOf (IsLegal S.machine) S.start cell.now result }
     ensures players { pass_players result ≡ caller.who ∷ [] }
+    ensures called { HaveCalled 1 times result }
 {
     let mut pass = caller.pass;
     let (mut op, mut other) = ops;

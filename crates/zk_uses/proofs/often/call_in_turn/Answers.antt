@@ -10,6 +10,8 @@ loop-step-preserved g c =
     let called = c.call-next.ensures in
     let room = called.room in
     let some = before.4 in
+    let holds = called.holds in
+    let more = before.7 in
     let few = entries_made-few c.call-next.result.1 in (
       called.own,
       called.players ∙ before.1,
@@ -18,4 +20,5 @@ loop-step-preserved g c =
       omega arith,
       before.6,
       before.5,
+      omega arith,
     )

@@ -10,10 +10,13 @@ loop-step-preserved g c =
     let called = c.call-next.ensures in
     let room = called.room in
     let some = before.4 in
+    let holds = called.holds in
+    let more = before.5 in
     let few = entries_made-few c.call-next.result.1 in (
       called.own,
       called.players ∙ before.1,
       called.who ∙ before.2,
       subst (λ w. IsAbove (pass_mine c.call-next.result.0) w.number (c.loop-step.step + 1)) before.2 called.later,
+      omega arith,
       omega arith,
     )
