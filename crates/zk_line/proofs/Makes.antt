@@ -362,6 +362,7 @@ makes_other word.Busy other = one_item call.Busy
 makes_other word.Start other = one_queue call.Start
 makes_other word.Drain other = by_line (queue ∷ slot.Either Drain ∷ []) Nothing (two as_object (as_truth Drain)) (λ p. call.Drain p.0 p.1) (two-line queue as_object (slot.Either Drain) (as_truth Drain) (object-made need.Queue) (truth-made Drain))
 makes_other word.Unplug other = one_queue call.Unplug
+makes_other word.Stop other = one_queue call.Stop
 makes_other word.Tick other = by_line (ticks ∷ []) Nothing (one as_number) call.Tick (one-line ticks as_number (number-made 1 MOST_TICKS))
 makes_other word.Take other = waiting need.Sem (λ p. call.Take p.0 p.1)
 makes_other word.Give other = one_sem call.Give

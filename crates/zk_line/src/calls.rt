@@ -45,6 +45,7 @@ pub fn said_of(call: &Call) -> Said
             of_two(Word::Drain, object(queue), Arg::Truth(Choice::Drain, *plug))
         }
         Call::Unplug(queue) => of_one(Word::Unplug, object(queue)),
+        Call::Stop(queue) => of_one(Word::Stop, object(queue)),
         Call::Tick(ticks) => of_one(Word::Tick, Arg::Number(*ticks)),
         Call::Take(sem, wait) => of_two(Word::Take, object(sem), Arg::Wait(*wait)),
         Call::Give(sem) => of_one(Word::Give, object(sem)),

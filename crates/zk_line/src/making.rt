@@ -59,6 +59,7 @@ fn put_on_one(place: &mut Call, word: Word, object: &Ref) -> bool
         Word::Busy => put!(place, Busy(*object)),
         Word::Start => put!(place, Start(*object)),
         Word::Unplug => put!(place, Unplug(*object)),
+        Word::Stop => put!(place, Stop(*object)),
         Word::Give => put!(place, Give(*object)),
         Word::Reset => put!(place, Reset(*object)),
         Word::Count => put!(place, Count(*object)),

@@ -94,6 +94,7 @@ pub fn need_at(call: &Call, index: u32) -> Option<Needed>
         Call::Start(queue) => one(*queue, Need::Queue, index),
         Call::Drain(queue, _) => one(*queue, Need::Queue, index),
         Call::Unplug(queue) => one(*queue, Need::Queue, index),
+        Call::Stop(queue) => one(*queue, Need::Queue, index),
         Call::Tick(_) => None,
         Call::Take(sem, _) => one(*sem, Need::Sem, index),
         Call::Give(sem) => one(*sem, Need::Sem, index),

@@ -97,6 +97,8 @@ pub enum Call {
     Drain(Ref, bool),
     /// A queue. Zephyr's `k_work_queue_unplug`.
     Unplug(Ref),
+    /// A queue. Zephyr's `k_work_queue_stop`.
+    Stop(Ref),
     /// The clock goes on by 1 to `MOST_TICKS` ticks. Zephyr's `sys_clock_announce`.
     Tick(u32),
     /// A semaphore. Zephyr's `k_sem_take`.

@@ -19,7 +19,7 @@ use Rattle.zk_model_work.specs.declared.parts.Wait.{Wait}
 use Rattle.zk_model_work.specs.declared.parts.Closing.{Closing}
 use Rattle.zk_model_work.specs.declared.parts.Closing.TheVariants as closings
 use Rattle.zk_model_work.specs.declared.ops.WorkOp.{WorkOp}
-use Rattle.zk_model_work.specs.declared.ops.WorkOp.TheVariants.{Submit, Cancel, CancelStart, CancelDone, FlushStart, FlushDone, Schedule, Reschedule, Remaining, Start, DrainStart, DrainDone, Unplug, Announce, Begin, End}
+use Rattle.zk_model_work.specs.declared.ops.WorkOp.TheVariants.{Submit, Cancel, CancelStart, CancelDone, FlushStart, FlushDone, Schedule, Reschedule, Remaining, Start, DrainStart, DrainDone, Unplug, Stop, Announce, Begin, End}
 use Rattle.zk_model_work.specs.declared.ops.WorkReply.{WorkReply}
 use Rattle.zk_model_work.specs.declared.ops.WorkReply.TheVariants as replies
 use Rattle.zk_model_work.specs.Questions.{is_open, is_ended, passes_at, is_empty_and_idle, running}
@@ -47,6 +47,7 @@ entries-next s who (Start k) = refl
 entries-next s who (DrainStart k plug) = refl
 entries-next s who (DrainDone place) = refl
 entries-next s who (Unplug k) = refl
+entries-next s who (Stop k) = refl
 entries-next s who (Announce ticks) = refl
 entries-next s who (Begin k) = refl
 entries-next s who (End k) = refl
@@ -110,6 +111,7 @@ waits-next P s who (DrainStart k plug) answered new all =
       by false = new (awaiteds.Drain k (drained_of s.queues k))
 waits-next P s who (DrainDone place) answered new all = waits-answered P s closings.Drain who place answered all
 waits-next P s who (Unplug k) answered new all = all
+waits-next P s who (Stop k) answered new all = all
 waits-next P s who (Announce ticks) answered new all = all
 waits-next P s who (Begin k) answered new all = all
 waits-next P s who (End k) answered new all = all

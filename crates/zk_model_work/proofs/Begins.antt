@@ -172,6 +172,7 @@ run_of n (WaitFor number) out = absurd (cc)
 run_of n (Number number) out = absurd (cc)
 run_of n Done out = absurd (cc)
 run_of n replies.Already out = absurd (cc)
+run_of n replies.Busy out = absurd (cc)
 run_of n (replies.Now time told) out = absurd (cc)
 
 -- a begin counts just where it hands the admission out

@@ -6,8 +6,9 @@ use Rattle.std.proofs.lemmas.List.Elements.{All-nil, All-cons, All-head, All-tai
 use Rattle.zk_model_work.specs.declared.parts.Queue.{Queue}
 use Rattle.zk_model_work.specs.declared.parts.Change.{Change}
 use Rattle.zk_model_work.specs.declared.parts.Change.TheVariants as changes
+use Rattle.zk_model_work.specs.Answers.{is_plugged}
 use Rattle.zk_model_work.specs.State.{IsCounted, IsTimed, fresh_queue, fresh_queues}
-use Rattle.zk_model_work.specs.Machine.{changed_queue, change, change_where, drain, settle_one, settle_from}
+use Rattle.zk_model_work.specs.Machine.{changed_queue, change, change_where, drain, stop, settle_one, settle_from}
 
 pub length-settle_from : (idle : ℕ → Bool) (from : ℕ) (xs : List Queue) → length (settle_from idle from xs) ≡ length xs
 length-settle_from idle from [] = refl
@@ -77,6 +78,7 @@ drained-changed : (c : Change) (q : Queue) → (changed_queue c q).drained ≡ q
 drained-changed changes.Start q = refl
 drained-changed changes.Plug q = refl
 drained-changed changes.Unplug q = refl
+drained-changed changes.Stop q = refl
 drained-changed changes.Drain q = refl
 
 drained-change : (c : Change) (qs : List Queue) (number n : ℕ) → All (λ (q : Queue). q.drained ≤ n) qs →
@@ -124,6 +126,14 @@ pub IsCounted-drain : (idle plug : Bool) (entries number : ℕ) (qs : List Queue
 IsCounted-drain idle plug entries number qs was =
     change-where-counted (not idle) changes.Drain entries number (change_where plug changes.Plug qs number)
     (change-where-counted plug changes.Plug entries number qs was)
+
+-- a stop
+pub length-stop : (idle : Bool) (qs : List Queue) (n : ℕ) → length (stop idle qs n) ≡ length qs
+length-stop idle qs n = length-change_where (is_plugged qs n && idle) changes.Stop qs n
+
+pub IsCounted-stop : (idle : Bool) (entries number : ℕ) (qs : List Queue) → IsCounted entries qs →
+    IsCounted entries (stop idle qs number)
+IsCounted-stop idle entries number qs was = change-where-counted (is_plugged qs number && idle) changes.Stop entries number qs was
 
 -- and writes it in its place
 pub IsCounted-written : (entries len : ℕ) (old new : List Queue) → IsCounted entries new → entries < most_entries →

@@ -20,7 +20,7 @@ use Rattle.zk_model_work.specs.declared.parts.Wait.{Wait}
 use Rattle.zk_model_work.specs.declared.parts.Closing.{Closing}
 use Rattle.zk_model_work.specs.declared.parts.Closing.TheVariants as closings
 use Rattle.zk_model_work.specs.declared.ops.WorkOp.{WorkOp}
-use Rattle.zk_model_work.specs.declared.ops.WorkOp.TheVariants.{Submit, Cancel, CancelStart, CancelDone, FlushStart, FlushDone, Schedule, Reschedule, Remaining, Start, DrainStart, DrainDone, Unplug, Announce, Begin, End}
+use Rattle.zk_model_work.specs.declared.ops.WorkOp.TheVariants.{Submit, Cancel, CancelStart, CancelDone, FlushStart, FlushDone, Schedule, Reschedule, Remaining, Start, DrainStart, DrainDone, Unplug, Stop, Announce, Begin, End}
 use Rattle.zk_model_work.specs.declared.ops.WorkReply.{WorkReply}
 use Rattle.zk_model_work.specs.declared.ops.WorkReply.TheVariants as replies
 use Rattle.zk_model_work.specs.Questions.{is_open, is_ended, passes_at, running, waiting, armed, is_empty_and_idle}
@@ -74,6 +74,7 @@ waits-told s who (DrainStart queue plug) reply w is new =
       by false said new = ap has_to_wait (sym said)
 waits-told s who (DrainDone place) reply w is new = absurd (cc)
 waits-told s who (Unplug queue) reply w is new = absurd (cc)
+waits-told s who (Stop queue) reply w is new = absurd (cc)
 waits-told s who (Announce ticks) reply w is new = absurd (cc)
 waits-told s who (Begin queue) reply w is new = absurd (cc)
 waits-told s who (End queue) reply w is new = absurd (cc)
@@ -152,6 +153,7 @@ new-kind s who (DrainStart queue plug) w closing place new is = by (is_empty_and
       (same_Some (wait_for s.entries who (awaiteds.Drain queue (drained_of s.queues queue))) w new) ∙ is)
 new-kind s who (DrainDone other) w closing place new is = absurd (cc)
 new-kind s who (Unplug queue) w closing place new is = absurd (cc)
+new-kind s who (Stop queue) w closing place new is = absurd (cc)
 new-kind s who (Announce ticks) w closing place new is = absurd (cc)
 new-kind s who (Begin queue) w closing place new is = absurd (cc)
 new-kind s who (End queue) w closing place new is = absurd (cc)
@@ -217,6 +219,7 @@ done-start start h front rest e place (DrainDone other) fresh parts op is done =
     start-of start h front rest e closings.Drain place fresh parts (op
     ∙ ap DrainDone (sym same)) (ap (may_close (state_after work_machine start front) closings.Drain e.who) same ∙ may)
 done-start start h front rest e place (Unplug queue) fresh parts op is done = absurd (cc)
+done-start start h front rest e place (Stop queue) fresh parts op is done = absurd (cc)
 done-start start h front rest e place (Announce ticks) fresh parts op is done = absurd (cc)
 done-start start h front rest e place (Begin queue) fresh parts op is done = absurd (cc)
 done-start start h front rest e place (End queue) fresh parts op is done = absurd (cc)
@@ -499,6 +502,7 @@ may-done start h before since first_one who (DrainStart queue plug) fresh parts 
       below m n less = grind (arith, nat_tests)
 may-done start h before since first_one who (DrainDone place) fresh parts op waits same untold come = absurd come
 may-done start h before since first_one who (Unplug queue) fresh parts op waits same untold come = absurd come
+may-done start h before since first_one who (Stop queue) fresh parts op waits same untold come = absurd come
 may-done start h before since first_one who (Announce ticks) fresh parts op waits same untold come = absurd come
 may-done start h before since first_one who (Begin queue) fresh parts op waits same untold come = absurd come
 may-done start h before since first_one who (End queue) fresh parts op waits same untold come = absurd come

@@ -21,7 +21,7 @@ use Rattle.zk_model_work.specs.declared.parts.Queue.{Queue}
 use Rattle.zk_model_work.specs.declared.parts.Change.{Change}
 use Rattle.zk_model_work.specs.declared.parts.Change.TheVariants as changes
 use Rattle.zk_model_work.specs.declared.ops.WorkOp.{WorkOp}
-use Rattle.zk_model_work.specs.declared.ops.WorkOp.TheVariants.{Submit, Cancel, CancelStart, CancelDone, FlushStart, FlushDone, Schedule, Reschedule, Remaining, Start, DrainStart, DrainDone, Unplug, Announce, Begin, End}
+use Rattle.zk_model_work.specs.declared.ops.WorkOp.TheVariants.{Submit, Cancel, CancelStart, CancelDone, FlushStart, FlushDone, Schedule, Reschedule, Remaining, Start, DrainStart, DrainDone, Unplug, Stop, Announce, Begin, End}
 use Rattle.zk_model_work.specs.declared.ops.Submitted.{Submitted}
 use Rattle.zk_model_work.specs.declared.ops.Submitted.TheVariants.{Already, Refused}
 use Rattle.zk_model_work.specs.declared.ops.WorkReply.{WorkReply}
@@ -29,10 +29,10 @@ use Rattle.zk_model_work.specs.Lists.{first}
 use Rattle.zk_model_work.specs.Questions.{is_waiting, is_open, waits_as, runs_on, is_open_at, is_empty_and_idle, is_cancelling, waiting, line, live_arm, due, item_of}
 use Rattle.zk_model_work.specs.State.{State, fresh_queue, fresh_queues}
 use Rattle.zk_model_work.specs.Machine.{submit, submit_arms, disarm, with_life, set_life, begin, end_one, end_run, drop_one, drop_waiting, settle_one, settle_from, settle, changed_queue, change, change_where, drain, work_next, work_machine}
-use Rattle.zk_model_work.specs.Answers.{is_chained, target, admission, refusal, submission_to, submission_at, submission, admitted_to, drained_of, closes}
+use Rattle.zk_model_work.specs.Answers.{is_chained, target, admission, refusal, submission_to, submission_at, submission, admitted_to, drained_of, is_plugged, closes}
 use Rattle.zk_model_work.specs.declared.parts.Item.{Item}
 use Rattle.zk_model_work.specs.Histories.{IsFreshHistory, OfEach, submitter, Makes, queue_after}
-use Rattle.zk_model_work.specs.Laws.{DrainAdmitsItsOwn, PluggedAdmitsNone, DrainsUntilItRests, PluggedRests, DrainEndsAtRest}
+use Rattle.zk_model_work.specs.Laws.{DrainAdmitsItsOwn, PluggedAdmitsNone, DrainsUntilItRests, PluggedRests, StoppedRests, DrainEndsAtRest}
 use Rattle.zk_model_work.proofs.Lives.{IsFirst-line}
 use Rattle.zk_model_work.proofs.Moves.{Stays, submit_arms-keeps, schedule-keeps, delayed-keeps}
 use Rattle.zk_model_work.proofs.Cancels.{made-next}
@@ -85,7 +85,7 @@ made-took start front e number a makes =
     number a (sym (ap (λ (u : State). slice_get u.admissions number)
     (state_after-append work_machine start front (e ∷ []))) ∙ makes.1) makes.0
 
--- a queue that drains took it from its worker, and one that is plugged took none
+-- a queue that drains took it from its worker, and one that is plugged or isn't started took none
 free-drains : (q : Queue) (caller : Option ℕ) → refusal caller q ≡ None → q.draining ≡ true → caller ≡ Some q.worker
 free-drains q caller free drains =
     by q.started (is_chained q caller) refl
@@ -114,6 +114,14 @@ free-plugged q caller free plugged still =
       by : (started : Bool) → cond (not started) (Some NoDev) (Some Busy) ≡ None → ⊥
       by true free = cc
       by false free = cc
+
+free-stopped : (q : Queue) (caller : Option ℕ) → refusal caller q ≡ None → q.started ≡ false → ⊥
+free-stopped q caller free off =
+    refused
+    (ap (λ b. cond (not b) (Some NoDev) (cond (q.draining && not (is_chained q caller)) (Some Busy)
+    (cond (q.plugged && not q.draining) (Some Busy) None))) (sym off) ∙ free) where
+      refused : Some NoDev ≡ None → ⊥
+      refused is = cc
 
 -- the queue that took it is the one that is there
 taken_by : (start : State) (front : List (Entry WorkOp WorkReply)) (e : Entry WorkOp WorkReply) (queue number : ℕ)
@@ -243,10 +251,11 @@ rests-push xs a queue = list_all-append (λ (b : Admission). not (is_open_at que
 
 -- what holds of each queue in every state
 
--- it drains only where something of it waits or runs, and is plugged without draining only where nothing does
+-- it drains only where something of it waits or runs; it is plugged without draining, or isn't started, only where nothing does
 pub record Keeps (xs : List Admission) (queue : ℕ) (q : Queue) : Type 0 where
   pub until : q.draining ≡ true → is_empty_and_idle xs queue ≡ false
   pub rests : q.plugged ≡ true → q.draining ≡ false → is_empty_and_idle xs queue ≡ true
+  pub stopped : q.started ≡ false → is_empty_and_idle xs queue ≡ true
 
 abbrev pub AllKeep : State → Type 0
 AllKeep s = (queue : ℕ) (q : Queue) → slice_get s.queues queue ≡ Some q → Keeps s.admissions queue q
@@ -261,11 +270,20 @@ keeps-settled xs ys queue q closes keeps = by q.draining (is_empty_and_idle ys q
 
   by : (d r : Bool) → q.draining ≡ d → is_empty_and_idle ys queue ≡ r →
       Keeps ys queue (cond (d && r) (record q { draining = false; drained = q.drained + 1 }) q)
-  by true true drains rests = record { until = λ none. absurd (false≢true none); rests = λ plugged still. rests }
-  by true false drains rests = record { until = λ some. rests; rests = λ plugged still. absurd (false≢true (sym still ∙ drains)) }
+  by true true drains rests = record {
+    until = λ none. absurd (false≢true none);
+    rests = λ plugged still. rests;
+    stopped = λ off. rests;
+  }
+  by true false drains rests = record {
+    until = λ some. rests;
+    rests = λ plugged still. absurd (false≢true (sym still ∙ drains));
+    stopped = λ off. closes (keeps.stopped off);
+  }
   by false r drains rests = record {
     until = λ some. absurd (false≢true (sym drains ∙ some));
     rests = λ plugged still. closes (keeps.rests plugged still);
+    stopped = λ off. closes (keeps.stopped off);
   }
 
 keeps-settle : (s : State) (ys : List Admission) →
@@ -285,10 +303,12 @@ keeps-settle s ys closes keep queue q at =
 
 -- after a change that starts or unplugs a queue
 calm : (c : Change) (xs : List Admission) (queue : ℕ) (q : Queue) → (changed_queue c q).draining ≡ q.draining →
-    ((changed_queue c q).plugged ≡ true → q.plugged ≡ true) → Keeps xs queue q → Keeps xs queue (changed_queue c q)
-calm c xs queue q drains plugs keeps = record {
+    ((changed_queue c q).plugged ≡ true → q.plugged ≡ true) → ((changed_queue c q).started ≡ false → q.started ≡ false) →
+    Keeps xs queue q → Keeps xs queue (changed_queue c q)
+calm c xs queue q drains plugs starts keeps = record {
   until = λ some. keeps.until (sym drains ∙ some);
   rests = λ plugged still. keeps.rests (plugs plugged) (sym drains ∙ still);
+  stopped = λ off. keeps.stopped (starts off);
 }
 
 keeps-change : (c : Change) (xs : List Admission) (qs : List Queue) (k : ℕ) →
@@ -312,6 +332,19 @@ keeps-where : (asked : Bool) (c : Change) (xs : List Admission) (qs : List Queue
 keeps-where true c xs qs k each keep queue q at = keeps-change c xs qs k (each refl) keep queue q at
 keeps-where false c xs qs k each keep queue q at = keep queue q at
 
+-- a plug leaves whether a queue is started
+unplugged-at : (asked : Bool) (qs : List Queue) (k queue : ℕ) (q : Queue) →
+    slice_get (change_where asked changes.Plug qs k) queue ≡ Some q →
+    (old : Queue) × (slice_get qs queue ≡ Some old) × (old.started ≡ q.started)
+unplugged-at true qs k queue q at = by (changed-at changes.Plug qs k queue q at) where
+  by : Changed changes.Plug qs k queue q → (old : Queue) × (slice_get qs queue ≡ Some old) × (old.started ≡ q.started)
+  by it = (it.old, it.there, which it.is) where
+    which : ((queue ≡ k) × (changed_queue changes.Plug it.old ≡ q)) ⊎ ((queue ≢ k) × (it.old ≡ q)) →
+        it.old.started ≡ q.started
+    which (inl same) = ap (λ (p : Queue). p.started) same.1
+    which (inr same) = ap (λ (p : Queue). p.started) same.1
+unplugged-at false qs k queue q at = (q, at, refl)
+
 -- after the start of a drain
 keeps-drain : (idle plug : Bool) (xs : List Admission) (qs : List Queue) (k : ℕ) → is_empty_and_idle xs k ≡ idle →
     ((queue : ℕ) (q : Queue) → slice_get qs queue ≡ Some q → Keeps xs queue q) →
@@ -320,6 +353,7 @@ keeps-drain true plug xs qs k idle keep queue q at =
     keeps-where plug changes.Plug xs qs k (λ asked (q : Queue) keeps. record {
       until = λ some. keeps.until some;
       rests = λ plugged still. idle;
+      stopped = λ off. idle;
     }) keep queue q at
 keeps-drain false plug xs qs k busy keep queue q at =
     by (changed-at changes.Drain (change_where plug changes.Plug qs k) k queue q at) where
@@ -340,7 +374,12 @@ keeps-drain false plug xs qs k busy keep queue q at =
             (record {
               until = λ some. busy;
               rests = λ plugged still. absurd (false≢true (sym still ∙ ap (λ (q : Queue). q.draining) (sym same.1)));
-            })
+              stopped = λ off. rest (unplugged-at plug qs k queue it.old it.there) off;
+            }) where
+              rest : (old : Queue) × (slice_get qs queue ≡ Some old) × (old.started ≡ it.old.started) → q.started ≡ false →
+                  is_empty_and_idle xs k ≡ true
+              rest was off = subst (λ n. is_empty_and_idle xs n ≡ true) same.0
+                  ((keep queue was.0 was.1).stopped (was.2 ∙ ap (λ (q : Queue). q.started) same.1 ∙ off))
         which (inr same) = other plug same.0 (it.there ∙ ap Some same.1)
 
 -- after a submission
@@ -360,15 +399,18 @@ keeps-submit qs caller xs item answer taken keep queue q at = by (admitted_to an
         until = λ some. rests-push xs a queue ∙ ap (λ b. b && (not (is_open_at queue a) && true)) (keeps.until some);
         rests = λ plugged still. rests-push xs a queue
             ∙ ap (λ b. b && (not (is_open_at queue a) && true)) (keeps.rests plugged still)
-            ∙ elsewhere plugged still (eqb to queue) refl;
+            ∙ elsewhere (λ free. free-plugged q caller free plugged still) (eqb to queue) refl;
+        stopped = λ off. rests-push xs a queue
+            ∙ ap (λ b. b && (not (is_open_at queue a) && true)) (keeps.stopped off)
+            ∙ elsewhere (λ free. free-stopped q caller free off) (eqb to queue) refl;
       } where
-        elsewhere : q.plugged ≡ true → q.draining ≡ false → (b : Bool) → eqb to queue ≡ b → (not (b && true) && true) ≡ true
-        elsewhere plugged still true same =
+        elsewhere : (refusal caller q ≡ None → ⊥) → (b : Bool) → eqb to queue ≡ b → (not (b && true) && true) ≡ true
+        elsewhere never true same =
             let it = taken to is in
             let there : slice_get qs queue ≡ Some it.taker = ap (slice_get qs) (sym (eqb-true to queue same)) ∙ it.there in
             let q_is = same_Some it.taker q (sym there ∙ at) in
-            absurd (free-plugged q caller (ap (refusal caller) (sym q_is) ∙ it.free) plugged still)
-        elsewhere plugged still false same = refl
+            absurd (never (ap (refusal caller) (sym q_is) ∙ it.free))
+        elsewhere never false same = refl
 
 -- after submissions, one after another
 keeps-submission : (s : State) (caller : Option ℕ) (ys : List Admission) (item : ℕ) (named : Option ℕ) →
@@ -382,6 +424,10 @@ keeps-arms : (s : State) (caller : Option ℕ) (arms : List Arm) → KeepAll s.q
     KeepAll s.queues (submit_arms s.marks s.queues caller arms s.admissions)
 keeps-arms s caller arms keep = submit_arms-keeps (KeepAll s.queues) s.admissions s.marks s.queues caller
     (keeps-submission s caller) arms s.admissions (λ n a at. at) keep
+
+-- a stop of the queue is done, where it is started
+abbrev pub may_stop : State → ℕ → Bool
+may_stop s k = is_plugged s.queues k && is_empty_and_idle s.admissions k
 
 pub AllKeep-next : (s : State) (who : Who) (op : WorkOp) → AllKeep s → AllKeep (work_next s who op)
 AllKeep-next s who (Submit item named) keep = keeps-submission s (Some who.number) s.admissions item named (λ n a at. at) keep
@@ -400,19 +446,28 @@ AllKeep-next s who (Reschedule item queue delay) keep =
     (keeps-submission s (Some who.number) s.admissions item (Some queue) (λ n a at. at) keep) (λ later. keep)
 AllKeep-next s who (Remaining item) keep = λ queue q at. keep queue q at
 AllKeep-next s who (Start k) keep =
-    keeps-change changes.Start s.admissions s.queues k (λ q keeps. calm changes.Start s.admissions k q refl (λ p. p) keeps) keep
+    keeps-change changes.Start s.admissions s.queues k
+    (λ q keeps. calm changes.Start s.admissions k q refl (λ p. p) (λ off. absurd (false≢true (sym off))) keeps) keep
 AllKeep-next s who (DrainStart k plug) keep = keeps-drain (is_empty_and_idle s.admissions k) plug s.admissions s.queues k
     refl keep
 AllKeep-next s who (DrainDone place) keep = λ queue q at. keep queue q at
 AllKeep-next s who (Unplug k) keep =
     keeps-change changes.Unplug s.admissions s.queues k
-    (λ q keeps. calm changes.Unplug s.admissions k q refl (λ p. absurd (false≢true p)) keeps) keep
+    (λ q keeps. calm changes.Unplug s.admissions k q refl (λ p. absurd (false≢true p)) (λ off. off) keeps) keep
+AllKeep-next s who (Stop k) keep =
+    keeps-where (may_stop s k) changes.Stop s.admissions s.queues k
+    (λ may (q : Queue) keeps. record {
+      until = λ some. keeps.until some;
+      rests = λ plugged still. keeps.rests plugged still;
+      stopped = λ off. second_so (is_plugged s.queues k) (is_empty_and_idle s.admissions k) may;
+    }) keep
 AllKeep-next s who (Announce ticks) keep = keeps-arms s None (due (s.time + ticks) s.arms) keep
 AllKeep-next s who (Begin k) keep = λ queue q at.
     let keeps = keep queue q at in
     record {
       until = λ some. rests-begin s.admissions k queue ∙ keeps.until some;
       rests = λ plugged still. rests-begin s.admissions k queue ∙ keeps.rests plugged still;
+      stopped = λ off. rests-begin s.admissions k queue ∙ keeps.stopped off;
     }
 AllKeep-next s who (End k) keep =
     keeps-settle s (end_run s.admissions k) (λ queue rests. rests-end s.admissions k queue rests) keep
@@ -430,6 +485,7 @@ AllKeep-fresh start h fresh queue q at =
     record {
       until = λ some. absurd (false≢true (sym both.0 ∙ some));
       rests = λ plugged still. absurd (false≢true (sym both.1 ∙ plugged));
+      stopped = λ off. ap (λ xs. is_empty_and_idle xs queue) fresh.work.fresh;
     }
 
 pub drains_until_it_rests : OfEach DrainsUntilItRests
@@ -439,6 +495,9 @@ drains_until_it_rests start h fresh queue q at drains =
 pub plugged_rests : OfEach PluggedRests
 plugged_rests start h fresh queue q at plugged still =
     (AllKeep-after start h (AllKeep-fresh start h fresh) queue q at).rests plugged still
+
+pub stopped_rests : OfEach StoppedRests
+stopped_rests start h fresh queue q at off = (AllKeep-after start h (AllKeep-fresh start h fresh) queue q at).stopped off
 
 -- where a draining is counted
 
@@ -470,6 +529,7 @@ drained-changed : (c : Change) (q : Queue) → (changed_queue c q).drained ≡ q
 drained-changed changes.Start q = refl
 drained-changed changes.Plug q = refl
 drained-changed changes.Unplug q = refl
+drained-changed changes.Stop q = refl
 drained-changed changes.Drain q = refl
 
 drained-change : (c : Change) (qs : List Queue) (k queue : ℕ) → drained_of (change c qs k) queue ≡ drained_of qs queue
@@ -511,6 +571,8 @@ counted-next s who (DrainStart k plug) queue more = let same =
     drained-drain (is_empty_and_idle s.admissions k) plug s.queues k queue in absurd (omega arith)
 counted-next s who (DrainDone place) queue more = absurd (omega arith)
 counted-next s who (Unplug k) queue more = let same = drained-change changes.Unplug s.queues k queue in absurd (omega arith)
+counted-next s who (Stop k) queue more =
+    let same = drained-where (may_stop s k) changes.Stop s.queues k queue in absurd (omega arith)
 counted-next s who (Announce ticks) queue more = absurd (omega arith)
 counted-next s who (Begin k) queue more = absurd (omega arith)
 counted-next s who (End k) queue more = counted-settle s.queues (end_run s.admissions k) queue more

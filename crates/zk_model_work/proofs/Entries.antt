@@ -5,7 +5,7 @@ use Rattle.zk_base.specs.declared.ids.Entry.{Entry}
 use Rattle.zk_base.specs.Legal.{state_after, IsLegal}
 use Rattle.zk_base.proofs.Histories.{IsLegal-front, state_after-snoc, Replays-rest}
 use Rattle.zk_model_work.specs.declared.ops.WorkOp.{WorkOp}
-use Rattle.zk_model_work.specs.declared.ops.WorkOp.TheVariants.{Submit, Cancel, CancelStart, CancelDone, FlushStart, FlushDone, Schedule, Reschedule, Remaining, Start, DrainStart, DrainDone, Unplug, Announce, Begin, End}
+use Rattle.zk_model_work.specs.declared.ops.WorkOp.TheVariants.{Submit, Cancel, CancelStart, CancelDone, FlushStart, FlushDone, Schedule, Reschedule, Remaining, Start, DrainStart, DrainDone, Unplug, Stop, Announce, Begin, End}
 use Rattle.zk_model_work.specs.declared.ops.WorkReply.{WorkReply}
 use Rattle.zk_model_work.specs.State.{State}
 use Rattle.zk_model_work.specs.Machine.{work_reply, work_next, work_machine, disarm}
@@ -78,6 +78,7 @@ time-next s who (Start queue) = sym (add-zero s.time)
 time-next s who (DrainStart queue plug) = sym (add-zero s.time)
 time-next s who (DrainDone place) = sym (add-zero s.time)
 time-next s who (Unplug queue) = sym (add-zero s.time)
+time-next s who (Stop queue) = sym (add-zero s.time)
 time-next s who (Announce ticks) = refl
 time-next s who (Begin queue) = sym (add-zero s.time)
 time-next s who (End queue) = sym (add-zero s.time)

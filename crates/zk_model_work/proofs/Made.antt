@@ -13,7 +13,7 @@ use Rattle.zk_model_work.specs.declared.parts.Arm.{Arm}
 use Rattle.zk_model_work.specs.declared.parts.Item.{Item}
 use Rattle.zk_model_work.specs.declared.parts.Queue.{Queue}
 use Rattle.zk_model_work.specs.declared.ops.WorkOp.{WorkOp}
-use Rattle.zk_model_work.specs.declared.ops.WorkOp.TheVariants.{Submit, Cancel, CancelStart, CancelDone, FlushStart, FlushDone, Schedule, Reschedule, Remaining, Start, DrainStart, DrainDone, Unplug, Announce, Begin, End}
+use Rattle.zk_model_work.specs.declared.ops.WorkOp.TheVariants.{Submit, Cancel, CancelStart, CancelDone, FlushStart, FlushDone, Schedule, Reschedule, Remaining, Start, DrainStart, DrainDone, Unplug, Stop, Announce, Begin, End}
 use Rattle.zk_model_work.specs.declared.ops.Submitted.{Submitted}
 use Rattle.zk_model_work.specs.declared.ops.Submitted.TheVariants.{Already, Fresh, Rerun, Refused}
 use Rattle.zk_model_work.specs.declared.ops.Expiry.{Expiry}
@@ -149,6 +149,7 @@ made-step s who (Start queue) reply n b is past at = absurd (none-new s.admissio
 made-step s who (DrainStart queue plug) reply n b is past at = absurd (none-new s.admissions s.admissions n b refl at past)
 made-step s who (DrainDone place) reply n b is past at = absurd (none-new s.admissions s.admissions n b refl at past)
 made-step s who (Unplug queue) reply n b is past at = absurd (none-new s.admissions s.admissions n b refl at past)
+made-step s who (Stop queue) reply n b is past at = absurd (none-new s.admissions s.admissions n b refl at past)
 made-step s who (Announce ticks) reply n b is past at =
     by (made-arms s.marks s.queues (due (s.time + ticks) s.arms) s.admissions n b at) where
       told : List Expiry
@@ -288,6 +289,7 @@ waits-next s who (Start queue) reply n a is at waits kept = at
 waits-next s who (DrainStart queue plug) reply n a is at waits kept = at
 waits-next s who (DrainDone place) reply n a is at waits kept = at
 waits-next s who (Unplug queue) reply n a is at waits kept = at
+waits-next s who (Stop queue) reply n a is at waits kept = at
 waits-next s who (Announce ticks) reply n a is at waits kept =
     stays-arms s.marks s.queues None (due (s.time + ticks) s.arms) s.admissions n a at
 waits-next s who (Begin queue) reply n a is at waits kept =

@@ -13,7 +13,7 @@ use Rattle.zk_base.specs.Legal.{state_after}
 use Rattle.zk_model_work.specs.declared.parts.Life.TheVariants.{Running}
 use Rattle.zk_model_work.specs.declared.parts.Admission.{Admission}
 use Rattle.zk_model_work.specs.declared.ops.WorkOp.{WorkOp}
-use Rattle.zk_model_work.specs.declared.ops.WorkOp.TheVariants.{Submit, Cancel, CancelStart, CancelDone, FlushStart, FlushDone, Schedule, Reschedule, Remaining, Start, DrainStart, DrainDone, Unplug, Announce, Begin, End}
+use Rattle.zk_model_work.specs.declared.ops.WorkOp.TheVariants.{Submit, Cancel, CancelStart, CancelDone, FlushStart, FlushDone, Schedule, Reschedule, Remaining, Start, DrainStart, DrainDone, Unplug, Stop, Announce, Begin, End}
 use Rattle.zk_model_work.specs.declared.ops.WorkReply.{WorkReply}
 use Rattle.zk_model_work.specs.Questions.{is_running, runs_as, passes_at, running, is_cancelling}
 use Rattle.zk_model_work.specs.State.{State}
@@ -49,6 +49,7 @@ marks-next s who (Start queue) = sym (append-nil s.marks)
 marks-next s who (DrainStart queue plug) = sym (append-nil s.marks)
 marks-next s who (DrainDone place) = sym (append-nil s.marks)
 marks-next s who (Unplug queue) = sym (append-nil s.marks)
+marks-next s who (Stop queue) = sym (append-nil s.marks)
 marks-next s who (Announce ticks) = sym (append-nil s.marks)
 marks-next s who (Begin queue) = sym (append-nil s.marks)
 marks-next s who (End queue) = sym (append-nil s.marks)
@@ -98,6 +99,7 @@ found-here p s (Start queue) is = absurd (cc)
 found-here p s (DrainStart queue plug) is = absurd (cc)
 found-here p s (DrainDone place) is = absurd (cc)
 found-here p s (Unplug queue) is = absurd (cc)
+found-here p s (Stop queue) is = absurd (cc)
 found-here p s (Announce ticks) is = absurd (cc)
 found-here p s (Begin queue) is = absurd (cc)
 found-here p s (End queue) is = absurd (cc)

@@ -1,5 +1,5 @@
 -- What an operation makes of the parts of the state.
-use Rattle.std.proofs.Common.{◌≡◌, ℕ, zero, suc, ◌+◌, ◌⊎◌, inl, inr, Bool, true, false, ◌||◌, cond, eqb, Option, Some, None, is_some, option_map, option_to_list, List, [], ◌∷◌, ◌++◌, length, map, slice_get, refl, ap, ◌∙◌}
+use Rattle.std.proofs.Common.{◌≡◌, ℕ, zero, suc, ◌+◌, ◌⊎◌, inl, inr, Bool, true, false, not, ◌&&◌, ◌||◌, cond, eqb, Option, Some, None, is_some, option_map, option_to_list, List, [], ◌∷◌, ◌++◌, length, map, slice_get, refl, ap, ◌∙◌}
 use Rattle.std.specs.Option.{option_map_or}
 use Rattle.std.proofs.lemmas.Option.{slice_get-map, same_Some}
 use Rattle.zk_base.proofs.Lists.{none_from_is_some}
@@ -9,7 +9,7 @@ use Rattle.zk_model_work.specs.declared.parts.Arm.{Arm}
 use Rattle.zk_model_work.specs.declared.parts.Queue.{Queue}
 use Rattle.zk_model_work.specs.declared.parts.Closing.TheVariants as closings
 use Rattle.zk_model_work.specs.declared.ops.WorkOp.{WorkOp}
-use Rattle.zk_model_work.specs.declared.ops.WorkOp.TheVariants.{Submit, Cancel, CancelStart, CancelDone, FlushStart, FlushDone, Schedule, Reschedule, Remaining, Start, DrainStart, DrainDone, Unplug, Announce, Begin, End}
+use Rattle.zk_model_work.specs.declared.ops.WorkOp.TheVariants.{Submit, Cancel, CancelStart, CancelDone, FlushStart, FlushDone, Schedule, Reschedule, Remaining, Start, DrainStart, DrainDone, Unplug, Stop, Announce, Begin, End}
 use Rattle.zk_model_work.specs.declared.ops.Submitted.{Submitted}
 use Rattle.zk_model_work.specs.declared.ops.Submitted.TheVariants.{Already, Fresh, Rerun, Refused}
 use Rattle.zk_model_work.specs.declared.ops.WorkReply.{WorkReply}
@@ -116,6 +116,7 @@ admissions-next P s who (Start queue) submits drops begins ends same = same
 admissions-next P s who (DrainStart queue plug) submits drops begins ends same = same
 admissions-next P s who (DrainDone place) submits drops begins ends same = same
 admissions-next P s who (Unplug queue) submits drops begins ends same = same
+admissions-next P s who (Stop queue) submits drops begins ends same = same
 admissions-next P s who (Announce ticks) submits drops begins ends same =
     submit_arms-keeps P s.admissions s.marks s.queues None submits (due (s.time + ticks) s.arms) s.admissions (λ n a at. at) same
 admissions-next P s who (Begin queue) submits drops begins ends same = begins queue refl
@@ -162,6 +163,7 @@ arms-next P s who (Start queue) disarms arms rearms expires same = same (λ othe
 arms-next P s who (DrainStart queue plug) disarms arms rearms expires same = same (λ other. refl)
 arms-next P s who (DrainDone place) disarms arms rearms expires same = same (λ other. refl)
 arms-next P s who (Unplug queue) disarms arms rearms expires same = same (λ other. refl)
+arms-next P s who (Stop queue) disarms arms rearms expires same = same (λ other. refl)
 arms-next P s who (Announce ticks) disarms arms rearms expires same = expires ticks refl
 arms-next P s who (Begin queue) disarms arms rearms expires same = same (λ other. refl)
 arms-next P s who (End queue) disarms arms rearms expires same = same (λ other. refl)
@@ -216,6 +218,10 @@ is_begin s who (DrainDone place) item number is =
     absurd (not_possible (may_close s closings.Drain who place) (replies.Number 1) item number (λ no. cc) is)
 is_begin s who (Unplug queue) item number is =
     absurd (not_run (is_plugged s.queues queue) replies.Done replies.Already item number (λ no. cc) (λ no. cc) (same_Some _ _ is))
+is_begin s who (Stop queue) item number is =
+    let may = is_plugged s.queues queue && is_empty_and_idle s.admissions queue in
+    absurd (not_run (not (is_started s.queues queue)) replies.Already (cond may replies.Done replies.Busy) item number
+    (λ no. cc) (not_run may replies.Done replies.Busy item number (λ no. cc) (λ no. cc)) (same_Some _ _ is))
 is_begin s who (Announce ticks) item number is = absurd (cc)
 is_begin s who (Begin queue) item number is = (queue, refl)
 is_begin s who (End queue) item number is =

@@ -10,7 +10,7 @@ use Rattle.zk_model_work.specs.declared.parts.Life.{Life}
 use Rattle.zk_model_work.specs.declared.parts.Life.TheVariants.{Waiting, Running, Ended, Dropped}
 use Rattle.zk_model_work.specs.declared.parts.Admission.{Admission}
 use Rattle.zk_model_work.specs.declared.ops.WorkOp.{WorkOp}
-use Rattle.zk_model_work.specs.declared.ops.WorkOp.TheVariants.{Submit, Cancel, CancelStart, CancelDone, FlushStart, FlushDone, Schedule, Reschedule, Remaining, Start, DrainStart, DrainDone, Unplug, Announce, Begin, End}
+use Rattle.zk_model_work.specs.declared.ops.WorkOp.TheVariants.{Submit, Cancel, CancelStart, CancelDone, FlushStart, FlushDone, Schedule, Reschedule, Remaining, Start, DrainStart, DrainDone, Unplug, Stop, Announce, Begin, End}
 use Rattle.zk_model_work.specs.declared.ops.WorkReply.{WorkReply}
 use Rattle.zk_model_work.specs.declared.ops.WorkReply.TheVariants.{Run}
 use Rattle.zk_model_work.specs.Questions.{is_waiting, is_running}
@@ -104,6 +104,7 @@ is_end queue (Start other) is = absurd (cc)
 is_end queue (DrainStart other plug) is = absurd (cc)
 is_end queue (DrainDone place) is = absurd (cc)
 is_end queue (Unplug other) is = absurd (cc)
+is_end queue (Stop other) is = absurd (cc)
 is_end queue (Announce ticks) is = absurd (cc)
 is_end queue (Begin other) is = absurd (cc)
 is_end queue (End other) is = ap End (sym (eqb-true queue other is))

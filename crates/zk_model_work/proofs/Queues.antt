@@ -12,16 +12,17 @@ use Rattle.zk_model_work.specs.declared.parts.Queue.{Queue}
 use Rattle.zk_model_work.specs.declared.parts.Change.{Change}
 use Rattle.zk_model_work.specs.declared.parts.Change.TheVariants as changes
 use Rattle.zk_model_work.specs.declared.ops.WorkOp.{WorkOp}
-use Rattle.zk_model_work.specs.declared.ops.WorkOp.TheVariants.{Submit, Cancel, CancelStart, CancelDone, FlushStart, FlushDone, Schedule, Reschedule, Remaining, Start, DrainStart, DrainDone, Unplug, Announce, Begin, End}
+use Rattle.zk_model_work.specs.declared.ops.WorkOp.TheVariants.{Submit, Cancel, CancelStart, CancelDone, FlushStart, FlushDone, Schedule, Reschedule, Remaining, Start, DrainStart, DrainDone, Unplug, Stop, Announce, Begin, End}
+use Rattle.zk_model_work.specs.declared.ops.WorkReply.{WorkReply}
 use Rattle.zk_model_work.specs.declared.ops.WorkReply.TheVariants as replies
 use Rattle.zk_model_work.specs.Questions.{is_empty_and_idle}
 use Rattle.zk_model_work.specs.State.{State}
 use Rattle.zk_model_work.specs.Machine.{work_reply, work_next, work_machine, disarm, drop_waiting, end_run, settle_one, changed_queue, change, change_where, drain}
-use Rattle.zk_model_work.specs.Answers.{start_reply, unplug_reply, drain_reply}
-use Rattle.zk_model_work.specs.Histories.{WorkHistory, IsFreshHistory, OfEach, starts, drains, plug_after}
-use Rattle.zk_model_work.specs.Laws.{StartedStays, PluggedAsAsked, StartTells, DrainTells, DrainingStays}
+use Rattle.zk_model_work.specs.Answers.{start_reply, is_started, unplug_reply, stop_reply, drain_reply}
+use Rattle.zk_model_work.specs.Histories.{WorkHistory, IsFreshHistory, OfEach, drains, plug_after, started_after}
+use Rattle.zk_model_work.specs.Laws.{StartedStays, PluggedAsAsked, StartTells, StopTells, DrainTells, DrainingStays}
 use Rattle.zk_model_work.proofs.Moves.{schedule-keeps, delayed-keeps}
-use Rattle.zk_model_work.proofs.Drains.{Keeps, AllKeep, AllKeep-next, AllKeep-after, AllKeep-fresh, settled-at}
+use Rattle.zk_model_work.proofs.Drains.{Keeps, AllKeep, AllKeep-next, AllKeep-after, AllKeep-fresh, settled-at, may_stop}
 use Rattle.zk_model_work.proofs.Entries.{at_each, at_each_in}
 
 AllKeep-history : (start : State) (h : WorkHistory) → IsFreshHistory start h → AllKeep (state_after work_machine start h)
@@ -68,6 +69,7 @@ queue_next s (Start k) n q = cond (eqb n k) (changed_queue changes.Start q) q
 queue_next s (DrainStart k plug) n q = draining_more (not (is_empty_and_idle s.admissions k) && eqb n k)
     (with_plug (plug && eqb n k) q)
 queue_next s (Unplug k) n q = cond (eqb n k) (changed_queue changes.Unplug q) q
+queue_next s (Stop k) n q = cond (may_stop s k && eqb n k) (changed_queue changes.Stop q) q
 queue_next s (End k) n q = settle_one (is_empty_and_idle (end_run s.admissions k)) n q
 queue_next s op n q = q
 
@@ -101,6 +103,7 @@ queues-next s who (DrainStart k plug) n =
     ∙ option_map-twice (draining_more (busy && eqb n k)) (with_plug (plug && eqb n k)) (slice_get s.queues n)
 queues-next s who (DrainDone place) n = sym (option_map_id (slice_get s.queues n))
 queues-next s who (Unplug k) n = changed-where true changes.Unplug s.queues k n
+queues-next s who (Stop k) n = changed-where (may_stop s k) changes.Stop s.queues k n
 queues-next s who (Announce ticks) n = sym (option_map_id (slice_get s.queues n))
 queues-next s who (Begin k) n = sym (option_map_id (slice_get s.queues n))
 queues-next s who (End k) n = settled-get (is_empty_and_idle (end_run s.admissions k)) s.queues n
@@ -118,32 +121,34 @@ part-cond f false x y same = refl
 -- a part of the queues that no operation changes
 part-next : {A : Type 0} (f : Queue → A) → ((q : Queue) → f (changed_queue changes.Start q) ≡ f q) →
     ((q : Queue) → f (changed_queue changes.Plug q) ≡ f q) →
-    ((q : Queue) → f (changed_queue changes.Unplug q) ≡ f q) → ((q : Queue) → f (changed_queue changes.Drain q) ≡ f q) →
+    ((q : Queue) → f (changed_queue changes.Unplug q) ≡ f q) → ((q : Queue) → f (changed_queue changes.Stop q) ≡ f q) →
+    ((q : Queue) → f (changed_queue changes.Drain q) ≡ f q) →
     ((q : Queue) → f (record q { draining = false; drained = q.drained + 1 }) ≡ f q) →
     (s : State) (op : WorkOp) (n : ℕ) (q : Queue) → f (queue_next s op n q) ≡ f q
-part-next f st pl un dr se s (Submit item named) n q = refl
-part-next f st pl un dr se s (Cancel item) n q =
+part-next f st pl un sp dr se s (Submit item named) n q = refl
+part-next f st pl un sp dr se s (Cancel item) n q =
     part-cond f (q.draining && is_empty_and_idle (drop_waiting s.admissions item) n)
     (record q { draining = false; drained = q.drained + 1 }) q (se q)
-part-next f st pl un dr se s (CancelStart item) n q =
+part-next f st pl un sp dr se s (CancelStart item) n q =
     part-cond f (q.draining && is_empty_and_idle (drop_waiting s.admissions item) n)
     (record q { draining = false; drained = q.drained + 1 }) q (se q)
-part-next f st pl un dr se s (CancelDone place) n q = refl
-part-next f st pl un dr se s (FlushStart item) n q = refl
-part-next f st pl un dr se s (FlushDone place) n q = refl
-part-next f st pl un dr se s (Schedule item k delay) n q = refl
-part-next f st pl un dr se s (Reschedule item k delay) n q = refl
-part-next f st pl un dr se s (Remaining item) n q = refl
-part-next f st pl un dr se s (Start k) n q = part-cond f (eqb n k) (changed_queue changes.Start q) q (st q)
-part-next f st pl un dr se s (DrainStart k plug) n q =
+part-next f st pl un sp dr se s (CancelDone place) n q = refl
+part-next f st pl un sp dr se s (FlushStart item) n q = refl
+part-next f st pl un sp dr se s (FlushDone place) n q = refl
+part-next f st pl un sp dr se s (Schedule item k delay) n q = refl
+part-next f st pl un sp dr se s (Reschedule item k delay) n q = refl
+part-next f st pl un sp dr se s (Remaining item) n q = refl
+part-next f st pl un sp dr se s (Start k) n q = part-cond f (eqb n k) (changed_queue changes.Start q) q (st q)
+part-next f st pl un sp dr se s (DrainStart k plug) n q =
     let p = with_plug (plug && eqb n k) q in
     part-cond f (not (is_empty_and_idle s.admissions k) && eqb n k) (changed_queue changes.Drain p) p (dr p)
     ∙ part-cond f (plug && eqb n k) (changed_queue changes.Plug q) q (pl q)
-part-next f st pl un dr se s (DrainDone place) n q = refl
-part-next f st pl un dr se s (Unplug k) n q = part-cond f (eqb n k) (changed_queue changes.Unplug q) q (un q)
-part-next f st pl un dr se s (Announce ticks) n q = refl
-part-next f st pl un dr se s (Begin k) n q = refl
-part-next f st pl un dr se s (End k) n q = part-cond f (q.draining && is_empty_and_idle (end_run s.admissions k) n)
+part-next f st pl un sp dr se s (DrainDone place) n q = refl
+part-next f st pl un sp dr se s (Unplug k) n q = part-cond f (eqb n k) (changed_queue changes.Unplug q) q (un q)
+part-next f st pl un sp dr se s (Stop k) n q = part-cond f (may_stop s k && eqb n k) (changed_queue changes.Stop q) q (sp q)
+part-next f st pl un sp dr se s (Announce ticks) n q = refl
+part-next f st pl un sp dr se s (Begin k) n q = refl
+part-next f st pl un sp dr se s (End k) n q = part-cond f (q.draining && is_empty_and_idle (end_run s.admissions k) n)
     (record q { draining = false; drained = q.drained + 1 }) q (se q)
 
 settled-part : {A : Type 0} (f : Queue → A) (idle : ℕ → Bool) (n : ℕ) (q : Queue) →
@@ -151,21 +156,42 @@ settled-part : {A : Type 0} (f : Queue → A) (idle : ℕ → Bool) (n : ℕ) (q
 settled-part f idle n q same = part-cond f (q.draining && idle n) (record q { draining = false; drained = q.drained + 1 }) q same
 
 -- who is started
-started-next : (s : State) (op : WorkOp) (n : ℕ) (q : Queue) → (queue_next s op n q).started ≡ (q.started || starts n op)
-started-next s (Submit item named) n q = sym (or-false q.started)
-started-next s (Cancel item) n q =
+
+-- where a stop is answered by whether the queue was started, and may be stopped
+abbrev stop_told : Bool → Bool → WorkReply
+stop_told started may = cond (not started) replies.Already (cond may replies.Done replies.Busy)
+
+stop-next : (n k : ℕ) (q : Queue) (started may here : Bool) → eqb n k ≡ here → (here ≡ true → q.started ≡ started) →
+    (cond (may && here) (changed_queue changes.Stop q) q).started
+    ≡ started_after n (Stop k) (stop_told started may) q.started
+stop-next n k q true true true here same = and-false q.started ∙ ap (λ b. q.started && not b) (sym here) where
+  and-false : (b : Bool) → false ≡ (b && false)
+  and-false true = refl
+  and-false false = refl
+stop-next n k q true true false here same = and-true q.started ∙ ap (λ b. q.started && not b) (sym here) where
+  and-true : (b : Bool) → b ≡ (b && true)
+  and-true true = refl
+  and-true false = refl
+stop-next n k q true false here is same = refl
+stop-next n k q false true true here same = sym (same refl)
+stop-next n k q false true false here same = refl
+stop-next n k q false false here is same = refl
+
+started-next : (s : State) (who : Who) (op : WorkOp) (reply : WorkReply) (n : ℕ) (q : Queue) →
+    work_reply s who op ≡ Some reply → slice_get s.queues n ≡ Some q →
+    (queue_next s op n q).started ≡ started_after n op reply q.started
+started-next s who (Submit item named) reply n q is at = refl
+started-next s who (Cancel item) reply n q is at =
     settled-part (λ (p : Queue). p.started) (is_empty_and_idle (drop_waiting s.admissions item)) n q refl
-    ∙ sym (or-false q.started)
-started-next s (CancelStart item) n q =
+started-next s who (CancelStart item) reply n q is at =
     settled-part (λ (p : Queue). p.started) (is_empty_and_idle (drop_waiting s.admissions item)) n q refl
-    ∙ sym (or-false q.started)
-started-next s (CancelDone place) n q = sym (or-false q.started)
-started-next s (FlushStart item) n q = sym (or-false q.started)
-started-next s (FlushDone place) n q = sym (or-false q.started)
-started-next s (Schedule item k delay) n q = sym (or-false q.started)
-started-next s (Reschedule item k delay) n q = sym (or-false q.started)
-started-next s (Remaining item) n q = sym (or-false q.started)
-started-next s (Start k) n q = by (eqb n k) where
+started-next s who (CancelDone place) reply n q is at = refl
+started-next s who (FlushStart item) reply n q is at = refl
+started-next s who (FlushDone place) reply n q is at = refl
+started-next s who (Schedule item k delay) reply n q is at = refl
+started-next s who (Reschedule item k delay) reply n q is at = refl
+started-next s who (Remaining item) reply n q is at = refl
+started-next s who (Start k) reply n q is at = by (eqb n k) where
   or-true : (b : Bool) → true ≡ (b || true)
   or-true true = refl
   or-true false = refl
@@ -173,25 +199,31 @@ started-next s (Start k) n q = by (eqb n k) where
   by : (b : Bool) → (cond b (changed_queue changes.Start q) q).started ≡ (q.started || b)
   by true = or-true q.started
   by false = sym (or-false q.started)
-started-next s (DrainStart k plug) n q =
+started-next s who (DrainStart k plug) reply n q is at =
     let p = with_plug (plug && eqb n k) q in
     part-cond (λ (p : Queue). p.started) (not (is_empty_and_idle s.admissions k) && eqb n k)
     (changed_queue changes.Drain p) p refl
-    ∙ part-cond (λ (p : Queue). p.started) (plug && eqb n k) (changed_queue changes.Plug q) q refl ∙ sym (or-false q.started)
-started-next s (DrainDone place) n q = sym (or-false q.started)
-started-next s (Unplug k) n q = part-cond (λ (p : Queue). p.started) (eqb n k) (changed_queue changes.Unplug q) q refl
-    ∙ sym (or-false q.started)
-started-next s (Announce ticks) n q = sym (or-false q.started)
-started-next s (Begin k) n q = sym (or-false q.started)
-started-next s (End k) n q = settled-part (λ (p : Queue). p.started) (is_empty_and_idle (end_run s.admissions k)) n q refl
-    ∙ sym (or-false q.started)
+    ∙ part-cond (λ (p : Queue). p.started) (plug && eqb n k) (changed_queue changes.Plug q) q refl
+started-next s who (DrainDone place) reply n q is at = refl
+started-next s who (Unplug k) reply n q is at =
+    part-cond (λ (p : Queue). p.started) (eqb n k) (changed_queue changes.Unplug q) q refl
+started-next s who (Stop k) reply n q is at =
+    stop-next n k q (is_started s.queues k) (may_stop s k) (eqb n k) refl
+    (λ here. sym (ap (λ (o : Option Queue). option_map_or (λ (p : Queue). p.started) o false) at)
+    ∙ ap (is_started s.queues) (eqb-true n k here))
+    ∙ ap (λ r. started_after n (Stop k) r q.started)
+    (same_Some (stop_reply (is_empty_and_idle s.admissions k) s.queues k) reply is)
+started-next s who (Announce ticks) reply n q is at = refl
+started-next s who (Begin k) reply n q is at = refl
+started-next s who (End k) reply n q is at =
+    settled-part (λ (p : Queue). p.started) (is_empty_and_idle (end_run s.admissions k)) n q refl
 
 pub started_stays : OfEach StartedStays
 started_stays = at_each _ (λ s e is queue q at. (
   queue_next s e.op queue q,
   queues-next s e.who e.op queue ∙ ap (option_map (queue_next s e.op queue)) at,
-  part-next (λ (p : Queue). p.worker) (λ q. refl) (λ q. refl) (λ q. refl) (λ q. refl) (λ q. refl) s e.op queue q,
-  started-next s e.op queue q,
+  part-next (λ (p : Queue). p.worker) (λ q. refl) (λ q. refl) (λ q. refl) (λ q. refl) (λ q. refl) (λ q. refl) s e.op queue q,
+  started-next s e.who e.op e.reply queue q is at,
 ))
 
 -- who is plugged
@@ -226,6 +258,8 @@ plugged-next s (Unplug k) n q = by q.plugged (eqb n k) refl where
   by true false is = is
   by false true is = refl
   by false false is = is
+plugged-next s (Stop k) n q =
+    part-cond (λ (p : Queue). p.plugged) (may_stop s k && eqb n k) (changed_queue changes.Stop q) q refl
 plugged-next s (Announce ticks) n q = refl
 plugged-next s (Begin k) n q = refl
 plugged-next s (End k) n q = settled-part (λ (p : Queue). p.plugged) (is_empty_and_idle (end_run s.admissions k)) n q refl
@@ -241,6 +275,13 @@ start_tells = at_each _ (λ s e is queue q at. (
   λ op. sym (same_Some (unplug_reply s.queues queue) e.reply (ap (work_reply s e.who) (sym op) ∙ is))
       ∙ ap (λ (o : Option Queue). cond (option_map_or (λ (p : Queue). p.plugged) o false) replies.Done replies.Already) at,
 ))
+
+pub stop_tells : OfEach StopTells
+stop_tells = at_each _ (λ s e is queue q at op.
+    let idle = is_empty_and_idle s.admissions queue in
+    sym (same_Some (stop_reply idle s.queues queue) e.reply (ap (work_reply s e.who) (sym op) ∙ is))
+    ∙ ap (λ (o : Option Queue). cond (not (option_map_or (λ (p : Queue). p.started) o false)) replies.Already
+    (cond (option_map_or (λ (p : Queue). p.plugged) o false && idle) replies.Done replies.Busy)) at)
 
 -- who drains
 
@@ -319,6 +360,9 @@ draining-next s who (DrainDone place) n q keep at = unsettled q.draining (is_emp
 draining-next s who (Unplug k) n q keep at =
     part-cond (λ (p : Queue). p.draining) (eqb n k) (changed_queue changes.Unplug q) q refl
     ∙ unsettled q.draining (is_empty_and_idle s.admissions n) (keep n q at).until
+draining-next s who (Stop k) n q keep at =
+    part-cond (λ (p : Queue). p.draining) (may_stop s k && eqb n k) (changed_queue changes.Stop q) q refl
+    ∙ unsettled q.draining (is_empty_and_idle s.admissions n) (keep n q at).until
 draining-next s who (Announce ticks) n q keep at =
     unsettled q.draining (is_empty_and_idle (work_next s who (Announce ticks)).admissions n)
     (kept-next s who (Announce ticks) n q keep at).until
@@ -378,6 +422,11 @@ counted-next s (Unplug k) n q =
     not-counted q (queue_next s (Unplug k) n q)
     (part-cond (λ (p : Queue). p.drained) (eqb n k) (changed_queue changes.Unplug q) q refl)
     (λ d. part-cond (λ (p : Queue). p.draining) (eqb n k) (changed_queue changes.Unplug q) q refl ∙ d)
+counted-next s (Stop k) n q =
+    let b = may_stop s k && eqb n k in
+    not-counted q (queue_next s (Stop k) n q)
+    (part-cond (λ (p : Queue). p.drained) b (changed_queue changes.Stop q) q refl)
+    (λ d. part-cond (λ (p : Queue). p.draining) b (changed_queue changes.Stop q) q refl ∙ d)
 counted-next s (Announce ticks) n q = not-counted q q refl (λ d. d)
 counted-next s (Begin k) n q = not-counted q q refl (λ d. d)
 counted-next s (End k) n q = counted-settled (is_empty_and_idle (end_run s.admissions k) n) q

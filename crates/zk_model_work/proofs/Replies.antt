@@ -1,5 +1,5 @@
 -- What an entry is answered, and which entries are possible.
-use Rattle.std.proofs.Common.{◌≡◌, ℕ, zero, suc, ◌+◌, Bool, true, false, cond, eqb, Option, Some, None, is_some, is_none, option_map, List, [], ◌∷◌, ◌++◌, length, map, find, drop, get_or, slice_get, refl, sym, ap, ◌∙◌}
+use Rattle.std.proofs.Common.{◌≡◌, ℕ, zero, suc, ◌+◌, Bool, true, false, not, ◌&&◌, cond, eqb, Option, Some, None, is_some, is_none, option_map, List, [], ◌∷◌, ◌++◌, length, map, find, drop, get_or, slice_get, refl, sym, ap, ◌∙◌}
 use Rattle.std.specs.Cmp.{first_so, second_so}
 use Rattle.std.specs.List.{position}
 use Rattle.std.specs.Option.{option_map_or, option_and_then}
@@ -17,7 +17,7 @@ use Rattle.zk_model_work.specs.declared.parts.Arm.{Arm}
 use Rattle.zk_model_work.specs.declared.parts.Queue.{Queue}
 use Rattle.zk_model_work.specs.declared.parts.Closing.TheVariants as closings
 use Rattle.zk_model_work.specs.declared.ops.WorkOp.{WorkOp}
-use Rattle.zk_model_work.specs.declared.ops.WorkOp.TheVariants.{Submit, Cancel, CancelStart, CancelDone, FlushStart, FlushDone, Schedule, Reschedule, Remaining, Start, DrainStart, DrainDone, Unplug, Announce, Begin, End}
+use Rattle.zk_model_work.specs.declared.ops.WorkOp.TheVariants.{Submit, Cancel, CancelStart, CancelDone, FlushStart, FlushDone, Schedule, Reschedule, Remaining, Start, DrainStart, DrainDone, Unplug, Stop, Announce, Begin, End}
 use Rattle.zk_model_work.specs.declared.ops.Submitted.TheVariants.{Already}
 use Rattle.zk_model_work.specs.declared.ops.WorkReply.{WorkReply}
 use Rattle.zk_model_work.specs.declared.ops.WorkReply.TheVariants as replies
@@ -74,6 +74,7 @@ worked-by s who (Start k) reply queue is by = absurd (cc)
 worked-by s who (DrainStart k plug) reply queue is by = absurd (cc)
 worked-by s who (DrainDone place) reply queue is by = absurd (cc)
 worked-by s who (Unplug k) reply queue is by = absurd (cc)
+worked-by s who (Stop k) reply queue is by = absurd (cc)
 worked-by s who (Announce ticks) reply queue is by = absurd (cc)
 worked-by s who (Begin k) reply queue is by =
     let may = chosen-where (may_begin s.admissions s.queues who k) (taken_up s.admissions k) reply is in
@@ -224,6 +225,11 @@ fits-reply s who (DrainDone place) reply is =
 fits-reply s who (Unplug queue) reply is =
     fits-said (Unplug queue) _ reply is (fits-cond (Unplug queue) (is_plugged s.queues queue) replies.Done replies.Already
     refl refl)
+fits-reply s who (Stop queue) reply is =
+    let may = is_plugged s.queues queue && is_empty_and_idle s.admissions queue in
+    fits-said (Stop queue) _ reply is
+    (fits-cond (Stop queue) (not (is_started s.queues queue)) replies.Already (cond may replies.Done replies.Busy) refl
+    (fits-cond (Stop queue) may replies.Done replies.Busy refl refl))
 fits-reply s who (Announce ticks) reply is = fits-said (Announce ticks) _ reply is refl
 fits-reply s who (Begin queue) reply is = ap (fits (Begin queue)) (Begun-reply s who queue reply is).replied
 fits-reply s who (End queue) reply is =
@@ -296,6 +302,7 @@ made-next s who (Start queue) reply is = none-made s.arms (is_armed reply)
 made-next s who (DrainStart queue plug) reply is = none-made s.arms (is_armed reply)
 made-next s who (DrainDone place) reply is = none-made s.arms (is_armed reply)
 made-next s who (Unplug queue) reply is = none-made s.arms (is_armed reply)
+made-next s who (Stop queue) reply is = none-made s.arms (is_armed reply)
 made-next s who (Announce ticks) reply is = drop-mapped (Rattle.zk_model_work.specs.Machine.expire_one (s.time + ticks))
     s.arms ∙ none-asked (is_armed reply)
 made-next s who (Begin queue) reply is = none-made s.arms (is_armed reply)
@@ -383,6 +390,7 @@ possible-always s who (Start queue) never = (_, refl)
 possible-always s who (DrainStart queue plug) never = (_, refl)
 possible-always s who (DrainDone place) never = absurd (cc)
 possible-always s who (Unplug queue) never = (_, refl)
+possible-always s who (Stop queue) never = (_, refl)
 possible-always s who (Announce ticks) never = (_, refl)
 possible-always s who (Begin queue) never = absurd (cc)
 possible-always s who (End queue) never = absurd (cc)

@@ -22,7 +22,7 @@ use Rattle.zk_model_work.specs.declared.ops.WorkReply.TheVariants.{Run}
 use Rattle.zk_model_work.specs.Lists.{places_from, first as first_of}
 use Rattle.zk_model_work.specs.Questions.{item_of, is_waiting, waits_for, waits_as, runs_on, run, line, is_empty_and_idle}
 use Rattle.zk_model_work.specs.State.{State}
-use Rattle.zk_model_work.specs.Answers.{submission, admitted_to, is_worker}
+use Rattle.zk_model_work.specs.Answers.{submission, admitted_to, is_worker, is_plugged}
 use Rattle.zk_model_work.specs.Machine.{work_reply, work_next, submit, set_life, with_life, begin, end_one, end_run, disarm, drop_one, drop_waiting, changed_queue, change, change_where, settle_from, may_begin, taken_up}
 use Rattle.zk_model_work.specs.Histories.{submitter}
 use Rattle.zk_model_work.proofs.Moves.{delayed-keeps, schedule-keeps, admissions-next}
@@ -130,6 +130,7 @@ changed-worker : (c : Change) (queue : Queue) → (changed_queue c queue).worker
 changed-worker changes.Start queue = refl
 changed-worker changes.Plug queue = refl
 changed-worker changes.Unplug queue = refl
+changed-worker changes.Stop queue = refl
 changed-worker changes.Drain queue = refl
 
 change-workers : (c : Change) (queues : List Queue) (number : ℕ) →
@@ -168,6 +169,8 @@ workers-next st who (ops.DrainStart queue plug) =
     ∙ change_where-workers plug changes.Plug st.queues queue
 workers-next st who (ops.DrainDone place) = refl
 workers-next st who (ops.Unplug queue) = change-workers changes.Unplug st.queues queue
+workers-next st who (ops.Stop queue) =
+    change_where-workers (is_plugged st.queues queue && is_empty_and_idle st.admissions queue) changes.Stop st.queues queue
 workers-next st who (ops.Announce ticks) = refl
 workers-next st who (ops.Begin queue) = refl
 workers-next st who (ops.End queue) = settle-workers (is_empty_and_idle (end_run st.admissions queue)) 0 st.queues

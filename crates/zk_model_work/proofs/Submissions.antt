@@ -22,7 +22,7 @@ use Rattle.zk_model_work.specs.declared.parts.Arm.{Arm}
 use Rattle.zk_model_work.specs.declared.parts.Item.{Item}
 use Rattle.zk_model_work.specs.declared.parts.Queue.{Queue}
 use Rattle.zk_model_work.specs.declared.ops.WorkOp.{WorkOp}
-use Rattle.zk_model_work.specs.declared.ops.WorkOp.TheVariants.{Submit, Cancel, CancelStart, CancelDone, FlushStart, FlushDone, Schedule, Reschedule, Remaining, Start, DrainStart, DrainDone, Unplug, Announce, Begin, End}
+use Rattle.zk_model_work.specs.declared.ops.WorkOp.TheVariants.{Submit, Cancel, CancelStart, CancelDone, FlushStart, FlushDone, Schedule, Reschedule, Remaining, Start, DrainStart, DrainDone, Unplug, Stop, Announce, Begin, End}
 use Rattle.zk_model_work.specs.declared.ops.Submitted.{Submitted}
 use Rattle.zk_model_work.specs.declared.ops.Submitted.TheVariants.{Already, Fresh, Rerun, Refused}
 use Rattle.zk_model_work.specs.declared.ops.Expiry.{Expiry}
@@ -566,6 +566,7 @@ submits s who (Start queue) reply item answer one is told = absurd told
 submits s who (DrainStart queue plug) reply item answer one is told = absurd told
 submits s who (DrainDone place) reply item answer one is told = absurd told
 submits s who (Unplug queue) reply item answer one is told = absurd told
+submits s who (Stop queue) reply item answer one is told = absurd told
 submits s who (Announce ticks) reply item answer one is told = submits-announce s who ticks reply item answer one is told
 submits s who (Begin queue) reply item answer one is told = absurd told
 submits s who (End queue) reply item answer one is told = absurd told
@@ -644,6 +645,7 @@ named-once s (Start queue) item named other one here there = absurd here
 named-once s (DrainStart queue plug) item named other one here there = absurd here
 named-once s (DrainDone place) item named other one here there = absurd here
 named-once s (Unplug queue) item named other one here there = absurd here
+named-once s (Stop queue) item named other one here there = absurd here
 named-once s (Announce ticks) item named other one here there = here.1
     ∙ ap Some (same-arm s item here.0 there.0 one here.2 there.2) ∙ sym there.1
 named-once s (Begin queue) item named other one here there = absurd here

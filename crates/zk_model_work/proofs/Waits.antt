@@ -17,7 +17,7 @@ use Rattle.zk_model_work.specs.declared.parts.Wait.{Wait}
 use Rattle.zk_model_work.specs.declared.parts.Closing.{Closing}
 use Rattle.zk_model_work.specs.declared.parts.Closing.TheVariants as closings
 use Rattle.zk_model_work.specs.declared.ops.WorkOp.{WorkOp}
-use Rattle.zk_model_work.specs.declared.ops.WorkOp.TheVariants.{Submit, Cancel, CancelStart, CancelDone, FlushStart, FlushDone, Schedule, Reschedule, Remaining, Start, DrainStart, DrainDone, Unplug, Announce, Begin, End}
+use Rattle.zk_model_work.specs.declared.ops.WorkOp.TheVariants.{Submit, Cancel, CancelStart, CancelDone, FlushStart, FlushDone, Schedule, Reschedule, Remaining, Start, DrainStart, DrainDone, Unplug, Stop, Announce, Begin, End}
 use Rattle.zk_model_work.specs.declared.ops.WorkReply.{WorkReply}
 use Rattle.zk_model_work.specs.declared.ops.WorkReply.TheVariants as replies
 use Rattle.zk_model_work.specs.Questions.{running, is_empty_and_idle}
@@ -69,6 +69,7 @@ waits-are s who (Start queue) = as_they_were s.waits
 waits-are s who (DrainStart queue plug) = one_more s.waits (option_to_list (new_wait s who (DrainStart queue plug)))
 waits-are s who (DrainDone place) = sym (append-nil (map (answered_by s who (DrainDone place)) s.waits))
 waits-are s who (Unplug queue) = as_they_were s.waits
+waits-are s who (Stop queue) = as_they_were s.waits
 waits-are s who (Announce ticks) = as_they_were s.waits
 waits-are s who (Begin queue) = as_they_were s.waits
 waits-are s who (End queue) = as_they_were s.waits
@@ -97,6 +98,7 @@ part-by f same s who (DrainStart queue plug) w = refl
 part-by f same s who (DrainDone place) w =
     part-answered f same (closes (has_come s.admissions s.queues closings.Drain) who place w) w
 part-by f same s who (Unplug queue) w = refl
+part-by f same s who (Stop queue) w = refl
 part-by f same s who (Announce ticks) w = refl
 part-by f same s who (Begin queue) w = refl
 part-by f same s who (End queue) w = refl
@@ -123,6 +125,7 @@ told-by_flush number op (replies.WaitFor other) fit never = absurd (false≢true
 told-by_flush number op (replies.Number n) fit never = refl
 told-by_flush number op replies.Done fit never = refl
 told-by_flush number op replies.Already fit never = refl
+told-by_flush number op replies.Busy fit never = refl
 told-by_flush number op (replies.Now time told) fit never = refl
 told-by_flush number op (replies.Run item n) fit never = refl
 
@@ -171,6 +174,8 @@ new-flush number s who (DrainDone place) reply is =
     sym (told-by_flush number (DrainDone place) reply (fits-reply s who (DrainDone place) reply is) (λ n. refl))
 new-flush number s who (Unplug queue) reply is =
     sym (told-by_flush number (Unplug queue) reply (fits-reply s who (Unplug queue) reply is) (λ n. refl))
+new-flush number s who (Stop queue) reply is =
+    sym (told-by_flush number (Stop queue) reply (fits-reply s who (Stop queue) reply is) (λ n. refl))
 new-flush number s who (Announce ticks) reply is =
     sym (told-by_flush number (Announce ticks) reply (fits-reply s who (Announce ticks) reply is) (λ n. refl))
 new-flush number s who (Begin queue) reply is =
@@ -230,6 +235,7 @@ new-parts s who (DrainStart queue plug) w is = by (is_empty_and_idle s.admission
   by false is = new-one s who (awaiteds.Drain queue (drained_of s.queues queue)) w is
 new-parts s who (DrainDone place) w is = absurd (cc)
 new-parts s who (Unplug queue) w is = absurd (cc)
+new-parts s who (Stop queue) w is = absurd (cc)
 new-parts s who (Announce ticks) w is = absurd (cc)
 new-parts s who (Begin queue) w is = absurd (cc)
 new-parts s who (End queue) w is = absurd (cc)
@@ -405,6 +411,7 @@ answered-next start h who (DrainDone place) reply w all has is =
     answered-done start h closings.Drain who place w all has
     (said-where (may_close (state_after work_machine start h) closings.Drain who place) (replies.Number 1) reply is).0
 answered-next start h who (Unplug queue) reply w all has is = sym (or-false w.answered)
+answered-next start h who (Stop queue) reply w all has is = sym (or-false w.answered)
 answered-next start h who (Announce ticks) reply w all has is = sym (or-false w.answered)
 answered-next start h who (Begin queue) reply w all has is = sym (or-false w.answered)
 answered-next start h who (End queue) reply w all has is = sym (or-false w.answered)

@@ -113,6 +113,12 @@ start_reply queues number = if is_started queues number then replies.Already els
 abbrev pub unplug_reply : List Queue → ℕ → WorkReply
 unplug_reply queues number = if is_plugged queues number then Done else replies.Already
 
+-- whether a stop finds the queue started, and may be done there: it may where the queue is plugged, and idle
+abbrev pub stop_reply : Bool → List Queue → ℕ → WorkReply
+stop_reply idle queues number =
+    if not (is_started queues number) then replies.Already else
+    if is_plugged queues number && idle then Done else replies.Busy
+
 -- how many drainings of the queue have ended
 abbrev pub drained_of : List Queue → ℕ → ℕ
 drained_of queues number = option_map_or (λ queue. queue.drained) (slice_get queues number) 0

@@ -7,7 +7,7 @@ use Rattle.zk_base.specs.declared.ids.Who.{Who}
 use Rattle.zk_base.specs.declared.ids.Entry.{Entry}
 use Rattle.zk_base.specs.Legal.{state_after, IsLegal}
 use Rattle.zk_model_work.specs.declared.ops.WorkOp.{WorkOp}
-use Rattle.zk_model_work.specs.declared.ops.WorkOp.TheVariants.{Submit, Cancel, CancelStart, CancelDone, FlushStart, FlushDone, Schedule, Reschedule, Remaining, Start, DrainStart, DrainDone, Unplug, Announce, Begin, End}
+use Rattle.zk_model_work.specs.declared.ops.WorkOp.TheVariants.{Submit, Cancel, CancelStart, CancelDone, FlushStart, FlushDone, Schedule, Reschedule, Remaining, Start, DrainStart, DrainDone, Unplug, Stop, Announce, Begin, End}
 use Rattle.zk_model_work.specs.declared.ops.Submitted.{Submitted}
 use Rattle.zk_model_work.specs.declared.ops.Submitted.TheVariants as submitteds
 use Rattle.zk_model_work.specs.declared.ops.Expiry.{Expiry}
@@ -318,11 +318,6 @@ abbrev pub ticks_of : WorkOp → ℕ
 ticks_of (Announce ticks) = ticks
 ticks_of op = 0
 
--- it starts the queue
-abbrev pub starts : ℕ → WorkOp → Bool
-starts queue (Start other) = queue == other
-starts queue op = false
-
 -- it starts a drain of the queue
 abbrev pub drains : ℕ → WorkOp → Bool
 drains queue (DrainStart other plug) = queue == other
@@ -339,6 +334,12 @@ abbrev pub plug_after : ℕ → WorkOp → Bool → Bool
 plug_after queue (DrainStart other plug) was = was || (plug && (queue == other))
 plug_after queue (Unplug other) was = was && not (queue == other)
 plug_after queue op was = was
+
+-- whether the queue is started after an operation with this reply, where this says whether it was before
+abbrev pub started_after : ℕ → WorkOp → WorkReply → Bool → Bool
+started_after queue (Start other) reply was = was || (queue == other)
+started_after queue (Stop other) Done was = was && not (queue == other)
+started_after queue op reply was = was
 
 -- the arm that an operation asks for at this time
 abbrev pub asked_arm : ℕ → WorkOp → List Arm
@@ -373,6 +374,9 @@ fits (DrainStart queue plug) replies.Wait = true
 fits (DrainDone place) (Number n) = n == 1
 fits (Unplug queue) Done = true
 fits (Unplug queue) replies.Already = true
+fits (Stop queue) Done = true
+fits (Stop queue) replies.Already = true
+fits (Stop queue) replies.Busy = true
 fits (Announce ticks) (Now time told) = true
 fits (Begin queue) (Run item number) = true
 fits (End queue) Done = true

@@ -3,7 +3,7 @@ use Rattle.std.specs.List.{list_any}
 use Rattle.zk_base.specs.declared.errors.Errno.{Errno}
 use Rattle.zk_base.specs.declared.ids.Who.{Who}
 use Rattle.zk_model_work.specs.declared.ops.WorkOp.{WorkOp}
-use Rattle.zk_model_work.specs.declared.ops.WorkOp.TheVariants.{Cancel, CancelStart, CancelDone, FlushStart, FlushDone, Schedule, Reschedule, Remaining, Start, DrainStart, DrainDone, Unplug, Announce, Begin, End}
+use Rattle.zk_model_work.specs.declared.ops.WorkOp.TheVariants.{Cancel, CancelStart, CancelDone, FlushStart, FlushDone, Schedule, Reschedule, Remaining, Start, DrainStart, DrainDone, Unplug, Stop, Announce, Begin, End}
 use Rattle.zk_model_work.specs.declared.ops.Submitted.{Submitted}
 use Rattle.zk_model_work.specs.declared.ops.Submitted.TheVariants as submitteds
 use Rattle.zk_model_work.specs.declared.ops.Expiry.{Expiry}
@@ -19,7 +19,7 @@ use Rattle.zk_model_work.specs.Questions.{is_waiting, is_open, is_live, is_empty
 use Rattle.zk_model_work.specs.State.{State}
 use Rattle.zk_model_work.specs.Machine.{flags_of}
 use Rattle.zk_model_work.specs.Answers.{drained_of}
-use Rattle.zk_model_work.specs.Histories.{AreToldInOrder, WorkEntry, WorkHistory, after, AtEach, hands_out, begins, ends, Cancels, cancels, disarms, submitter, announces, admission_after, life_after, made_after, Makes, IsNewest, NoneIsOpen, running_after, queue_after, rests_after, drained_after, arm_after, time_after, IsBeingCancelled, IsBeingFlushed, target_of, queue_refuses, IsArmedFor, Named, IsSubmission, AnswerHolds, told_number, cancel_flags, is_done_of, done_for, has_to_wait, IsCause, IsPending, HasStart, HasCome, ticks_of, starts, drains, is_worked_by, plug_after, asked_arm, is_armed, fits, MayGoOn, is_awaited}
+use Rattle.zk_model_work.specs.Histories.{AreToldInOrder, WorkEntry, WorkHistory, after, AtEach, hands_out, begins, ends, Cancels, cancels, disarms, submitter, announces, admission_after, life_after, made_after, Makes, IsNewest, NoneIsOpen, running_after, queue_after, rests_after, drained_after, arm_after, time_after, IsBeingCancelled, IsBeingFlushed, target_of, queue_refuses, IsArmedFor, Named, IsSubmission, AnswerHolds, told_number, cancel_flags, is_done_of, done_for, has_to_wait, IsCause, IsPending, HasStart, HasCome, ticks_of, drains, is_worked_by, plug_after, started_after, asked_arm, is_armed, fits, MayGoOn, is_awaited}
 
 -- Each of what follows is said of one history.
 
@@ -331,11 +331,11 @@ PluggedAsAsked = AtEach (λ before e later. (queue : ℕ) (q r : Queue) →
     slice_get before.queues queue ≡ Some q → slice_get later.queues queue ≡ Some r →
     r.plugged ≡ plug_after queue e.op q.plugged)
 
--- a queue stays, with its worker; it is started by a start of it, and stays so
+-- a queue stays, with its worker; it is started by a start of it, stopped by a stop of it that is done, and else as it was
 abbrev pub StartedStays : State → WorkHistory → Type 0
 StartedStays = AtEach (λ before e later. (queue : ℕ) (q : Queue) → slice_get before.queues queue ≡ Some q →
     (r : Queue) × (slice_get later.queues queue ≡ Some r) × (r.worker ≡ q.worker)
-    × (r.started ≡ (q.started || starts queue e.op)))
+    × (r.started ≡ started_after queue e.op e.reply q.started))
 
 -- a start tells whether the queue was started already, and an unplug whether it was plugged
 abbrev pub StartTells : State → WorkHistory → Type 0
@@ -343,7 +343,19 @@ StartTells = AtEach (λ before e later. (queue : ℕ) (q : Queue) → slice_get 
     (e.op ≡ Start queue → e.reply ≡ (if q.started then replies.Already else Done))
     × (e.op ≡ Unplug queue → e.reply ≡ (if q.plugged then Done else replies.Already)))
 
--- a drain, a plug and a start hold
+-- a stop tells that the queue isn't started; of one that is, it is done where the queue is plugged and rests, else busy
+abbrev pub StopTells : State → WorkHistory → Type 0
+StopTells = AtEach (λ before e later. (queue : ℕ) (q : Queue) → slice_get before.queues queue ≡ Some q →
+    e.op ≡ Stop queue →
+    e.reply ≡ (if not q.started then replies.Already else
+    if q.plugged && is_empty_and_idle before.admissions queue then Done else replies.Busy))
+
+-- a queue that isn't started is empty and idle
+abbrev pub StoppedRests : State → WorkHistory → Type 0
+StoppedRests start h = (queue : ℕ) (q : Queue) → queue_after start h queue ≡ Some q → q.started ≡ false →
+    rests_after start h queue ≡ true
+
+-- a drain, a plug, a start and a stop hold
 pub record DrainsHold (start : State) (h : WorkHistory) : Type 0 where
   pub own : DrainAdmitsItsOwn start h
   pub until : DrainsUntilItRests start h
@@ -356,6 +368,8 @@ pub record DrainsHold (start : State) (h : WorkHistory) : Type 0 where
   pub plugs : PluggedAsAsked start h
   pub started : StartedStays start h
   pub starts : StartTells start h
+  pub stops : StopTells start h
+  pub stopped : StoppedRests start h
 
 -- Delays.
 

@@ -4,7 +4,7 @@ use Rattle.std.specs.Option.{option_map_or}
 use Rattle.zk_base.specs.declared.ids.Who.{Who}
 use Rattle.zk_base.specs.Legal.{Machine}
 use Rattle.zk_model_work.specs.declared.ops.WorkOp.{WorkOp}
-use Rattle.zk_model_work.specs.declared.ops.WorkOp.TheVariants.{Submit, Cancel, CancelStart, CancelDone, FlushStart, FlushDone, Schedule, Reschedule, Remaining, Start, DrainStart, DrainDone, Unplug, Announce, Begin, End}
+use Rattle.zk_model_work.specs.declared.ops.WorkOp.TheVariants.{Submit, Cancel, CancelStart, CancelDone, FlushStart, FlushDone, Schedule, Reschedule, Remaining, Start, DrainStart, DrainDone, Unplug, Stop, Announce, Begin, End}
 use Rattle.zk_model_work.specs.declared.ops.Submitted.{Submitted}
 use Rattle.zk_model_work.specs.declared.ops.Expiry.{Expiry}
 use Rattle.zk_model_work.specs.declared.ops.WorkReply.{WorkReply}
@@ -21,7 +21,7 @@ use Rattle.zk_model_work.specs.declared.parts.Closing.{Closing}
 use Rattle.zk_model_work.specs.declared.parts.Closing.TheVariants as closings
 use Rattle.zk_model_work.specs.declared.parts.Change.{Change}
 use Rattle.zk_model_work.specs.declared.parts.Change.TheVariants as changes
-use Rattle.zk_model_work.specs.Answers.{submission, admitted_to, flags, is_pending, cancel_start_reply, flush_start_reply, delay_reply, schedule_reply, remaining, drain_reply, start_reply, unplug_reply, cancel_wait, flushed, flush_wait, drain_wait, is_awaited_over, closes, is_worker}
+use Rattle.zk_model_work.specs.Answers.{submission, admitted_to, flags, is_pending, cancel_start_reply, flush_start_reply, delay_reply, schedule_reply, remaining, drain_reply, start_reply, is_plugged, unplug_reply, stop_reply, cancel_wait, flushed, flush_wait, drain_wait, is_awaited_over, closes, is_worker}
 use Rattle.zk_model_work.specs.Lists.{first}
 use Rattle.zk_model_work.specs.State.{State}
 use Rattle.zk_model_work.specs.Questions.{is_open, is_ended, passes_at, waits_as, runs_on, arms_item, waiting, running, line, run, is_empty_and_idle, armed, live_arm, deadline_of, is_due, due, is_flushing, item_of}
@@ -138,6 +138,7 @@ abbrev pub changed_queue : Change → Queue → Queue
 changed_queue changes.Start queue = record queue { started = true }
 changed_queue changes.Plug queue = record queue { plugged = true }
 changed_queue changes.Unplug queue = record queue { plugged = false }
+changed_queue changes.Stop queue = record queue { started = false }
 changed_queue changes.Drain queue = record queue { draining = true }
 
 -- the queue of this number, if there is one, is changed so
@@ -208,6 +209,10 @@ announce s ticks =
 abbrev pub drain : Bool → Bool → List Queue → ℕ → List Queue
 drain idle plug queues number =
     change_where (not idle) changes.Drain (change_where plug changes.Plug queues number) number
+
+-- the queue after a stop: not started any more, where it is plugged, and idle
+abbrev pub stop : Bool → List Queue → ℕ → List Queue
+stop idle queues number = change_where (is_plugged queues number && idle) changes.Stop queues number
 
 -- the state after the start of a drain, in which the player waits unless the queue is empty and idle
 abbrev pub drain_start : State → Who → ℕ → Bool → State
@@ -301,6 +306,7 @@ work_reply s who (Start queue) = Some (start_reply s.queues queue)
 work_reply s who (DrainStart queue plug) = Some (drain_reply (is_empty_and_idle s.admissions queue))
 work_reply s who (DrainDone place) = if may_close s closings.Drain who place then Some (Number 1) else None
 work_reply s who (Unplug queue) = Some (unplug_reply s.queues queue)
+work_reply s who (Stop queue) = Some (stop_reply (is_empty_and_idle s.admissions queue) s.queues queue)
 work_reply s who (Announce ticks) = Some (announce_reply s ticks)
 work_reply s who (Begin queue) =
     if may_begin s.admissions s.queues who queue then taken_up s.admissions queue else None
@@ -322,6 +328,7 @@ changed s who (Start queue) = record s { queues = change changes.Start s.queues 
 changed s who (DrainStart queue plug) = drain_start s who queue plug
 changed s who (DrainDone place) = record s { waits = answered_waits s closings.Drain who place }
 changed s who (Unplug queue) = record s { queues = change changes.Unplug s.queues queue }
+changed s who (Stop queue) = record s { queues = stop (is_empty_and_idle s.admissions queue) s.queues queue }
 changed s who (Announce ticks) = announce s ticks
 changed s who (Begin queue) = record s { admissions = begin s.admissions queue }
 changed s who (End queue) = end s queue
@@ -350,6 +357,7 @@ is_among items queues (Start queue) = nat_lt queue queues
 is_among items queues (DrainStart queue plug) = nat_lt queue queues
 is_among items queues (DrainDone place) = true
 is_among items queues (Unplug queue) = nat_lt queue queues
+is_among items queues (Stop queue) = nat_lt queue queues
 is_among items queues (Announce ticks) = true
 is_among items queues (Begin queue) = nat_lt queue queues
 is_among items queues (End queue) = nat_lt queue queues

@@ -1,5 +1,5 @@
 ghost use Rattle.std.specs.Prelude.{◌≡◌, Some, None};
-ghost use Rattle.zk_model_work.specs.Answers.{is_chained, target, admission, refusal, submission_to, submission_at, submission, is_pending, remaining, wait_for, cancel_wait, flush_wait, drain_wait, start_reply, drain_reply, unplug_reply, cancel_start_reply, flush_start_reply, closes};
+ghost use Rattle.zk_model_work.specs.Answers.{is_chained, target, admission, refusal, submission_to, submission_at, submission, is_pending, remaining, wait_for, cancel_wait, flush_wait, drain_wait, start_reply, drain_reply, unplug_reply, stop_reply, cancel_start_reply, flush_start_reply, closes};
 ghost use Rattle.zk_model_work.specs.Machine.{taken_up, may_begin, may_end, has_come};
 
 use crate::{
@@ -206,6 +206,21 @@ pub fn unplug_reply(queues: &[Queue], queue: u32) -> WorkReply
         WorkReply::Done
     } else {
         WorkReply::Already
+    }
+}
+
+/// What a stop of this queue is answered: whether it was started before, and may be stopped, as it may
+/// where it is plugged, and idle.
+pub fn stop_reply(queues: &[Queue], queue: u32, idle: bool) -> WorkReply
+    ensures { result ≡ stop_reply idle queues.now queue }
+{
+    if !is_started(queues, queue) {
+        return WorkReply::Already;
+    }
+    if is_plugged(queues, queue) && idle {
+        WorkReply::Done
+    } else {
+        WorkReply::Busy
     }
 }
 

@@ -1,10 +1,10 @@
 ghost use Rattle.std.specs.Prelude.{◌≡◌, ◌+◌, ◌-◌, ◌^◌, ◌<◌, ◌++◌, length, map, All, option_to_list};
 ghost use Rattle.zk_model_work.specs.Questions.{running, runs_on, waits_as, arms_item, is_empty_and_idle};
-ghost use Rattle.zk_model_work.specs.Machine.{set_life, begin, end_run, drop_waiting, disarm, expire, changed_queue, change, drain, answer_where, answer_one, settle_one, settle, end_one, drop_one, disarm_one, expire_one};
+ghost use Rattle.zk_model_work.specs.Machine.{set_life, begin, end_run, drop_waiting, disarm, expire, changed_queue, change, drain, stop, answer_where, answer_one, settle_one, settle, end_one, drop_one, disarm_one, expire_one};
 
 use crate::{
     Admission, Arm, Change, Closing, Fate, Life, Queue, Wait, closes, first_in_line, is_due,
-    is_empty_and_idle,
+    is_empty_and_idle, is_plugged,
 };
 use zk_base::Who;
 
@@ -128,6 +128,7 @@ fn changed_queue(queue: Queue, how: Change) -> Queue
         Change::Start => queue.started = true,
         Change::Plug => queue.plugged = true,
         Change::Unplug => queue.plugged = false,
+        Change::Stop => queue.started = false,
         Change::Drain => queue.draining = true,
     }
     queue
@@ -152,6 +153,15 @@ pub fn drain(queues: &mut [Queue], number: u32, idle: bool, plug: bool)
     }
     if !idle {
         change(queues, number, Change::Drain);
+    }
+}
+
+/// The queue of this number, after a stop: not started any more where it is plugged, and idle.
+pub fn stop(queues: &mut [Queue], number: u32, idle: bool)
+    ensures { queues.new ≡ stop idle queues.old number }
+{
+    if is_plugged(queues, number) && idle {
+        change(queues, number, Change::Stop);
     }
 }
 

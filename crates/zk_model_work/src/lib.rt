@@ -13,12 +13,12 @@ mod state;
 
 pub use answers::{
     cancel_start_reply, cancel_wait, closes, drain_reply, drain_wait, flush_start_reply,
-    flush_wait, is_pending, may_begin, may_end, remaining, start_reply, submission, taken_up,
-    unplug_reply,
+    flush_wait, is_pending, may_begin, may_end, remaining, start_reply, stop_reply, submission,
+    taken_up, unplug_reply,
 };
 pub use busy::{BusyFlags, flags, united};
 pub use changes::{
-    answer, begin, change, disarm, drain, drop_waiting, end_run, expire, set_life, settle,
+    answer, begin, change, disarm, drain, drop_waiting, end_run, expire, set_life, settle, stop,
 };
 pub use growth::{arm, fresh_queues, hurry, mark, put_wait, submit, submit_arms};
 pub use laws::{

@@ -33,6 +33,9 @@ pub enum WorkOp {
     DrainDone(u64),
     /// Takes a plug away, so that the queue takes items again. Zephyr's `k_work_queue_unplug`.
     Unplug(u32),
+    /// Stops a started queue that is plugged, empty and idle: it takes no items until it is started
+    /// again. Zephyr's `k_work_queue_stop`.
+    Stop(u32),
     /// So many ticks have passed: the delays that are over by now end, and their items are submitted.
     /// Zephyr's `sys_clock_announce`.
     Announce(u32),
@@ -88,6 +91,8 @@ pub enum WorkReply {
     Done,
     /// Nothing was done, since it was done before.
     Already,
+    /// Nothing was done, since the queue isn't plugged, or something of it waits or runs.
+    Busy,
     /// The time after an announce, in ticks, and the delays that ended by it.
     Now(u64, Expiries),
     /// The item that a worker took up, and the number of its admission.

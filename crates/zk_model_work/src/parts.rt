@@ -153,6 +153,8 @@ pub enum Change {
     Plug,
     /// It isn't plugged any more.
     Unplug,
+    /// It takes no items until it is started again.
+    Stop,
     /// It drains until nothing of it waits or runs.
     Drain,
 }

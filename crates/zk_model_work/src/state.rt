@@ -10,7 +10,7 @@ use crate::{
     disarm, drain, drain_reply, drain_wait, drop_waiting, due, end_run, expire, flags,
     flush_start_reply, flush_wait, flushed, fresh_queues, hurry, is_empty_and_idle, is_flushing,
     is_pending, item_of, live_arm, mark, may_begin, may_end, put_wait, remaining, running, settle,
-    start_reply, submission, submit, submit_arms, taken_up, unplug_reply,
+    start_reply, stop, stop_reply, submission, submit, submit_arms, taken_up, unplug_reply,
 };
 use bitflags::Flags;
 use std::alloc::Global;
@@ -335,6 +335,18 @@ impl WorkState {
         Some(reply)
     }
 
+    fn stop(&mut self, who: Who, queue: u32) -> Option<WorkReply>
+        requires { self.old.entries < most_entries }
+        ensures reply { result ≡ work_reply self.old who (WorkOp.Stop queue) }
+        ensures next { self.new ≡ after_reply self.old who (WorkOp.Stop queue) result }
+    {
+        let idle = is_empty_and_idle(&self.admissions, queue);
+        let reply = stop_reply(&self.queues, queue, idle);
+        stop(&mut self.queues, queue, idle);
+        self.entries += 1;
+        Some(reply)
+    }
+
     fn cancel(&mut self, who: Who, item: u32) -> Replied
         requires { self.old.entries < most_entries }
         ensures reply { IfOk result (λ reply.
@@ -395,6 +407,7 @@ pub fn work_next(
             WorkReply::Number(1),
         )),
         WorkOp::Unplug(queue) => Ok(state.unplug(who, queue)),
+        WorkOp::Stop(queue) => Ok(state.stop(who, queue)),
         WorkOp::Announce(ticks) => state.announce(who, ticks),
         WorkOp::Begin(queue) => Ok(state.begin(who, queue)),
         WorkOp::End(queue) => Ok(state.end(who, queue)),

@@ -17,7 +17,8 @@ use Rattle.zk_words.specs.Text.{line_text}
 use Rattle.zk_words.specs.Pieces.{words_of}
 use Rattle.zk_words.proofs.Placed.{texts-parts_of}
 
-head_spelled : (first : List ℕ) (head : Head) → head_of first ≡ Some head → first ≡ (row_of head).first
+-- a word that finds a head is the first of its row
+pub head_spelled : (first : List ℕ) (head : Head) → head_of first ≡ Some head → first ≡ (row_of head).first
 head_spelled first head found =
     (bytes_eq-Decides first (row_of head).first).0 (find-passes (λ h. bytes_eq first (row_of h).first) heads head found)
 

@@ -127,6 +127,7 @@ call_row word.Busy = exactly (codes "busy") (item ∷ [])
 call_row word.Start = exactly (codes "start") (queue ∷ [])
 call_row word.Drain = exactly (codes "drain") (queue ∷ Either Drain ∷ [])
 call_row word.Unplug = exactly (codes "unplug") (queue ∷ [])
+call_row word.Stop = exactly (codes "stop") (queue ∷ [])
 call_row word.Tick = exactly (codes "tick") (ticks ∷ [])
 call_row word.Take = exactly (codes "take") (sem ∷ Wait ∷ [])
 call_row word.Give = exactly (codes "give") (sem ∷ [])
@@ -174,7 +175,7 @@ heads =
     ∷ Declare kind.Listener ∷ Declare kind.Sub ∷ Declare kind.Chan ∷ Allow ∷ Script ∷ End
     ∷ Call word.Submit ∷ Call word.Cancel ∷ Call word.CancelSync ∷ Call word.Flush
     ∷ Call word.Schedule ∷ Call word.Reschedule ∷ Call word.Remaining ∷ Call word.Busy
-    ∷ Call word.Start ∷ Call word.Drain ∷ Call word.Unplug ∷ Call word.Tick
+    ∷ Call word.Start ∷ Call word.Drain ∷ Call word.Unplug ∷ Call word.Stop ∷ Call word.Tick
     ∷ Call word.Take ∷ Call word.Give ∷ Call word.Reset ∷ Call word.Count
     ∷ Call word.Put ∷ Call word.Get ∷ Call word.Peek ∷ Call word.PeekAt ∷ Call word.Purge ∷ Call word.Used ∷ Call word.Free
     ∷ Call word.Raise ∷ Call word.Clear ∷ Call word.Check ∷ Call word.Poll

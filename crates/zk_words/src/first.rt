@@ -103,6 +103,7 @@ fn head_by_s(first: &[u8]) -> Option<Head>
         b"schedule" => Head::Call(Word::Schedule),
         b"subwait" => Head::Call(Word::SubWait),
         b"start" => Head::Call(Word::Start),
+        b"stop" => Head::Call(Word::Stop),
         b"script" => Head::Script,
         b"sem" => Head::Declare(Kind::Sem),
         b"sub" => Head::Declare(Kind::Sub),

@@ -156,6 +156,7 @@ pub fn call_row(word: Word) -> Row
         Word::Start => exactly(b"start", &[QUEUE]),
         Word::Drain => exactly(b"drain", &[QUEUE, Slot::Either(Choice::Drain)]),
         Word::Unplug => exactly(b"unplug", &[QUEUE]),
+        Word::Stop => exactly(b"stop", &[QUEUE]),
         Word::Tick => exactly(b"tick", &[TICKS]),
         Word::Take => exactly(b"take", &[SEM, Slot::Wait]),
         Word::Give => exactly(b"give", &[SEM]),
@@ -190,7 +191,7 @@ pub fn call_row(word: Word) -> Row
 }
 
 /// The heads of all lines.
-const HEADS: [Head; 53] = [
+const HEADS: [Head; 54] = [
     Head::Declare(Kind::Thread),
     Head::Declare(Kind::Queue),
     Head::Declare(Kind::Item),
@@ -214,6 +215,7 @@ const HEADS: [Head; 53] = [
     Head::Call(Word::Start),
     Head::Call(Word::Drain),
     Head::Call(Word::Unplug),
+    Head::Call(Word::Stop),
     Head::Call(Word::Tick),
     Head::Call(Word::Take),
     Head::Call(Word::Give),

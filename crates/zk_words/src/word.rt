@@ -14,6 +14,7 @@ pub enum Word {
     Start,
     Drain,
     Unplug,
+    Stop,
     Tick,
     Take,
     Give,

@@ -18,7 +18,7 @@ use Rattle.zk_model_work.specs.declared.parts.Wait.{Wait}
 use Rattle.zk_model_work.specs.Lists.{first}
 use Rattle.zk_model_work.specs.Questions.{is_waiting, is_running, waits_as, runs_as, waits_for, runs_on, running, last_queue, line, run, is_empty_and_idle, is_cancelling, item_of as machine_item}
 use Rattle.zk_model_work.specs.Answers.{drain_wait, drained_of, wait_for}
-use Rattle.zk_model_work.specs.Machine.{with_life, set_life, drop_one, end_one, settle_from, end, cancel, drain, drain_start, awaiting}
+use Rattle.zk_model_work.specs.Machine.{with_life, set_life, drop_one, end_one, settle_from, end, cancel, drain, drain_start, stop, awaiting}
 use Rattle.zk_model_work.specs.State.{State}
 use Rattle.zk_model_work.proofs.Counts.{IsTimed-more, IsCounted-more, IsCounted-settled, length-settle_from}
 use Rattle.zk_model_work.proofs.Lives.{open-running}
@@ -37,7 +37,7 @@ use Rattle.zk_work.proofs.LastQueues.{last-push, last-map, last-set_life}
 use Rattle.zk_work.proofs.Cancelling.{remarked, cancelling-push, cancelling-begin, cancelling-end_other, cancelling-none, cancelling-cancel, cancelling-cancel_none, cancelling-cancel_other}
 use Rattle.zk_work.proofs.Sound.{IsSound-push, IsSound-cancel, IsSound-end, IsSound-begin}
 use Rattle.zk_work.proofs.Replies.{runs_item}
-use Rattle.zk_work.proofs.Beside.{drains-stand, wait-stands}
+use Rattle.zk_work.proofs.Beside.{drains-stand, stops-stand, wait-stands}
 use Rattle.zk_work.proofs.Items.{queued}
 use Rattle.zk_work.proofs.Numbered.{numbered_as, numbered-admit}
 use Rattle.zk_work.proofs.Awaited.{there-later, Later-push, Later-drop, Later-begin, Later-end}
@@ -232,6 +232,17 @@ drain-stands k s who queue plug st few =
     (record k { queues = drain i plug k.queues queue; entries = k.entries + 1 })
     (record s { queues = drain i plug s.queues queue; entries = s.entries + 1 })
     (drains-stand i plug k s queue st few) (λ w is. (new w is).0) (λ w is. (new w is).1)))
+
+-- a stop of a queue
+pub stop-stands : (k : EngineState) (s : State) (queue : ℕ) → StandsFor k s → s.entries < most_entries →
+    StandsFor (record k { queues = stop (active.is_idle k.active queue) k.queues queue; entries = k.entries + 1 })
+    (record s { queues = stop (is_empty_and_idle s.admissions queue) s.queues queue; entries = s.entries + 1 })
+stop-stands k s queue st few =
+    let idle = is_empty_and_idle s.admissions queue in
+    let S : State = record s { queues = stop idle s.queues queue; entries = s.entries + 1 } in
+    subst (λ b. StandsFor (record k { queues = stop b k.queues queue; entries = k.entries + 1 }) S)
+    (sym (idle-same k.active s.admissions queue (st.admissions.lines queue) (st.admissions.runs queue)))
+    (stops-stand idle k s queue st few)
 
 kept-cond : {A B : Type 0} (f : A → B) (b : Bool) (x y : A) → f x ≡ f y → f (cond b x y) ≡ f y
 kept-cond f true x y same = same

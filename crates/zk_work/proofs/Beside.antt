@@ -11,9 +11,9 @@ use Rattle.zk_model_work.specs.declared.parts.Change.{Change}
 use Rattle.zk_model_work.specs.declared.parts.Wait.{Wait}
 use Rattle.zk_model_work.specs.declared.ops.Submitted.{Submitted}
 use Rattle.zk_model_work.specs.Answers.{admitted_to}
-use Rattle.zk_model_work.specs.Machine.{change, drain, awaiting}
+use Rattle.zk_model_work.specs.Machine.{change, drain, stop, awaiting}
 use Rattle.zk_model_work.specs.State.{State, IsCounted, IsTimed}
-use Rattle.zk_model_work.proofs.Counts.{IsTimed-more, IsCounted-more, IsCounted-changed, IsCounted-drain, length-change, length-drain}
+use Rattle.zk_model_work.proofs.Counts.{IsTimed-more, IsCounted-more, IsCounted-changed, IsCounted-drain, IsCounted-stop, length-change, length-drain, length-stop}
 use Rattle.zk_time.specs.Timeouts.{Timeouts, IsOrdered}
 use Rattle.zk_work.specs.EngineState.{EngineState, IsWhole, StandsFor, unanswered, is_there, timeouts_of}
 use Rattle.zk_work.specs.Engine.{admitted, submitted}
@@ -105,6 +105,16 @@ drains-stand idle plug k s queue st few =
     queues-stand (λ qs. drain idle plug qs queue) k s st
     (IsCounted-more k.entries (drain idle plug k.queues queue) drained (omega arith))
     (length-drain idle plug k.queues queue)
+
+-- the queues after a stop
+pub stops-stand : (idle : Bool) (k : EngineState) (s : State) (queue : ℕ) → StandsFor k s → s.entries < most_entries →
+    StandsFor (record k { queues = stop idle k.queues queue; entries = k.entries + 1 })
+    (record s { queues = stop idle s.queues queue; entries = s.entries + 1 })
+stops-stand idle k s queue st few =
+    let entries = st.entries in
+    let stopped = IsCounted-stop idle k.entries queue k.queues st.whole.counted in
+    queues-stand (λ qs. stop idle qs queue) k s st
+    (IsCounted-more k.entries (stop idle k.queues queue) stopped (omega arith)) (length-stop idle k.queues queue)
 
 -- other waits
 pub waits-stand : (k : EngineState) (s : State) (ws all : List Wait) → StandsFor k s → ws ≡ unanswered all →

@@ -17,7 +17,7 @@ use Rattle.zk_model_work.specs.declared.parts.Closing.{Closing}
 use Rattle.zk_model_work.specs.declared.parts.Closing.TheVariants as closings
 use Rattle.zk_model_work.specs.declared.parts.Change.TheVariants as changes
 use Rattle.zk_model_work.specs.declared.ops.WorkOp.{WorkOp}
-use Rattle.zk_model_work.specs.declared.ops.WorkOp.TheVariants.{Submit, Cancel, CancelStart, CancelDone, FlushStart, FlushDone, Schedule, Reschedule, Remaining, Start, DrainStart, DrainDone, Unplug, Announce, Begin, End}
+use Rattle.zk_model_work.specs.declared.ops.WorkOp.TheVariants.{Submit, Cancel, CancelStart, CancelDone, FlushStart, FlushDone, Schedule, Reschedule, Remaining, Start, DrainStart, DrainDone, Unplug, Stop, Announce, Begin, End}
 use Rattle.zk_model_work.specs.declared.ops.Submitted.{Submitted}
 use Rattle.zk_model_work.specs.declared.ops.Submitted.TheVariants.{Already, Fresh, Rerun, Refused}
 use Rattle.zk_model_work.specs.declared.ops.WorkReply.{WorkReply}
@@ -27,7 +27,7 @@ use Rattle.zk_model_work.specs.Questions.{is_running, waits_as, runs_on, run, li
 use Rattle.zk_model_work.specs.State.{State}
 use Rattle.zk_model_work.specs.Machine.{work_reply, work_next, in_range, is_among, submission_in, submit, submit_arms, disarm, delayed, schedule, flushed_of, set_life, with_life, begin, end_one, end_run, drop_one, drop_waiting, awaiting, answer_where, answer_one, has_come, may_close}
 use Rattle.zk_model_work.specs.Answers.{is_worker, submission, cancel_wait, flush_wait, drain_wait, is_unanswered, closes}
-use Rattle.zk_model_work.proofs.Counts.{length-settle_from, length-change, length-drain}
+use Rattle.zk_model_work.proofs.Counts.{length-settle_from, length-change, length-drain, length-stop}
 use Rattle.zk_model_work.proofs.Moves.{submit_arms-keeps, delayed-keeps, schedule-keeps}
 use Rattle.zk_work.specs.EngineState.{work_owed, work_closes}
 
@@ -46,6 +46,7 @@ counts s who (Start queue) = refl
 counts s who (DrainStart queue plug) = refl
 counts s who (DrainDone place) = refl
 counts s who (Unplug queue) = refl
+counts s who (Stop queue) = refl
 counts s who (Announce ticks) = refl
 counts s who (Begin queue) = refl
 counts s who (End queue) = refl
@@ -71,6 +72,7 @@ ranges s who (DrainStart queue plug) =
     ap (is_among s.items) (length-drain (is_empty_and_idle s.admissions queue) plug s.queues queue)
 ranges s who (DrainDone place) = refl
 ranges s who (Unplug queue) = ap (is_among s.items) (length-change changes.Unplug s.queues queue)
+ranges s who (Stop queue) = ap (is_among s.items) (length-stop (is_empty_and_idle s.admissions queue) s.queues queue)
 ranges s who (Announce ticks) = refl
 ranges s who (Begin queue) = refl
 ranges s who (End queue) =
@@ -288,6 +290,7 @@ adds s who (DrainStart queue plug) =
     omega (arith, owed-awaiting s.waits (drain_wait (is_empty_and_idle s.admissions queue) s.entries s.queues who queue))
 adds s who (DrainDone place) = omega (arith, owed-closed s closings.Drain who place)
 adds s who (Unplug queue) = omega arith
+adds s who (Stop queue) = omega arith
 adds s who (Announce ticks) = omega (arith, owed-arms s None (due (s.time + ticks) s.arms))
 adds s who (Begin queue) = omega (arith, owed-begin s.admissions queue)
 adds s who (End queue) = omega (arith, sum_by-map runs (end_one queue) (owed-end_one queue) s.admissions)
@@ -311,6 +314,7 @@ gives s who (DrainStart queue plug) closes possible = absurd (cc)
 gives s who (DrainDone place) closes possible =
     omega (arith, gives-closed s closings.Drain who place (Number 1) possible)
 gives s who (Unplug queue) closes possible = absurd (cc)
+gives s who (Stop queue) closes possible = absurd (cc)
 gives s who (Announce ticks) closes possible = absurd (cc)
 gives s who (Begin queue) closes possible = absurd (cc)
 gives s who (End queue) closes possible =

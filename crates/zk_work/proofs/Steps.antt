@@ -7,7 +7,7 @@ use Rattle.std.proofs.lemmas.Bool.{ltb-true}
 use Rattle.zk_base.proofs.Lists.{cond_chosen}
 use Rattle.zk_base.specs.declared.ids.Who.{Who}
 use Rattle.zk_model_work.specs.declared.ops.WorkOp.{WorkOp}
-use Rattle.zk_model_work.specs.declared.ops.WorkOp.TheVariants.{Submit, Cancel, CancelStart, CancelDone, FlushStart, FlushDone, Schedule, Reschedule, Remaining, Start, DrainStart, DrainDone, Unplug, Announce, Begin, End}
+use Rattle.zk_model_work.specs.declared.ops.WorkOp.TheVariants.{Submit, Cancel, CancelStart, CancelDone, FlushStart, FlushDone, Schedule, Reschedule, Remaining, Start, DrainStart, DrainDone, Unplug, Stop, Announce, Begin, End}
 use Rattle.zk_model_work.specs.declared.ops.Submitted.{Submitted}
 use Rattle.zk_model_work.specs.declared.ops.WorkReply.{WorkReply}
 use Rattle.zk_model_work.specs.declared.ops.WorkReply.TheVariants.{Sub, Flags, Truth, Number, Done, Run}
@@ -16,8 +16,8 @@ use Rattle.zk_model_work.specs.declared.parts.Life.TheVariants.{Running}
 use Rattle.zk_model_work.specs.declared.parts.Change.TheVariants as changes
 use Rattle.zk_model_work.specs.declared.parts.Queue.{Queue}
 use Rattle.zk_model_work.specs.Lists.{first}
-use Rattle.zk_model_work.specs.Questions.{waits_for, line, item_of}
-use Rattle.zk_model_work.specs.Answers.{submission, cancel_start_reply, flush_start_reply, start_reply, drain_reply, unplug_reply, is_worker, schedule_reply}
+use Rattle.zk_model_work.specs.Questions.{waits_for, line, is_empty_and_idle, item_of}
+use Rattle.zk_model_work.specs.Answers.{submission, cancel_start_reply, flush_start_reply, start_reply, drain_reply, unplug_reply, stop_reply, is_worker, schedule_reply}
 use Rattle.zk_model_work.specs.Machine.{submit, arm, disarm, set_life, flags_of, cancel, work_reply, work_next, is_among}
 use Rattle.zk_model_work.specs.State.{State}
 use Rattle.zk_model_work.specs.Machine as machine
@@ -33,7 +33,7 @@ use Rattle.zk_work.proofs.Tickets.{position-first}
 use Rattle.zk_work.proofs.Replies.{answer-same, begin-same, end-same}
 use Rattle.zk_work.proofs.Awaiting.{flags-same, runs_by, flushed-same, may_close-same, closed-stands}
 use Rattle.zk_work.proofs.Beside.{entries-later, counted-stands, change-stands}
-use Rattle.zk_work.proofs.Admissions.{idle-same, drain-stands, begin-stands, end-stands}
+use Rattle.zk_work.proofs.Admissions.{idle-same, drain-stands, stop-stands, begin-stands, end-stands}
 use Rattle.zk_work.proofs.Delaying.{disarmed-stands, disarmed-free, deadline-fits, submit-stands, pending-same, delayed-stands, delay_reply-same, remaining-same, hurried-stands, flush_start-stands, cancelled-stands, cancel_start-stands}
 use Rattle.zk_work.proofs.Announcing.{announced-stands, announce_reply-same}
 
@@ -145,6 +145,10 @@ reply-same k s who (DrainStart queue plug) st range few =
 reply-same k s who (DrainDone place) st range few =
     ap (λ b. cond b (Some (Number 1)) None) (may_close-same k s st closings.Drain who place)
 reply-same k s who (Unplug queue) st range few = ap (λ (qs : List Queue). Some (unplug_reply qs queue)) st.queues
+reply-same k s who (Stop queue) st range few =
+    ap (λ b. Some (stop_reply b k.queues queue))
+    (idle-same k.active s.admissions queue (st.admissions.lines queue) (st.admissions.runs queue))
+    ∙ ap (λ (qs : List Queue). Some (stop_reply (is_empty_and_idle s.admissions queue) qs queue)) st.queues
 reply-same k s who (Announce ticks) st range few = ap (λ (r : WorkReply). Some r) (announce_reply-same k s ticks st)
 reply-same k s who (Begin queue) st range few = begin-same k s st who queue
 reply-same k s who (End queue) st range few = end-same k s st who queue
@@ -191,6 +195,7 @@ next-stands k s who (Start queue) reply st range few timely is = change-stands c
 next-stands k s who (DrainStart queue plug) reply st range few timely is = drain-stands k s who queue plug st few
 next-stands k s who (DrainDone place) reply st range few timely is = closed-stands k s st closings.Drain who place few
 next-stands k s who (Unplug queue) reply st range few timely is = change-stands changes.Unplug k s queue st few
+next-stands k s who (Stop queue) reply st range few timely is = stop-stands k s queue st few
 next-stands k s who (Announce ticks) reply st range few timely is = announced-stands k s ticks st few timely
 next-stands k s who (Begin queue) reply st range few timely is =
     by (active.run k.active queue) (first (active.line k.active queue)) refl refl

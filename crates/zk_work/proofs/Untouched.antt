@@ -5,7 +5,7 @@ use Rattle.zk_base.specs.declared.ids.Who.{Who}
 use Rattle.zk_base.specs.Touched.{is_touched}
 use Rattle.zk_base.proofs.Lists.{cond_chosen}
 use Rattle.zk_model_work.specs.declared.ops.WorkOp.{WorkOp}
-use Rattle.zk_model_work.specs.declared.ops.WorkOp.TheVariants.{Submit, Cancel, CancelStart, CancelDone, FlushStart, FlushDone, Schedule, Reschedule, Remaining, Start, DrainStart, DrainDone, Unplug, Announce, Begin, End}
+use Rattle.zk_model_work.specs.declared.ops.WorkOp.TheVariants.{Submit, Cancel, CancelStart, CancelDone, FlushStart, FlushDone, Schedule, Reschedule, Remaining, Start, DrainStart, DrainDone, Unplug, Stop, Announce, Begin, End}
 use Rattle.zk_model_work.specs.declared.ops.WorkReply.{WorkReply}
 use Rattle.zk_model_work.specs.declared.ops.WorkReply.TheVariants.{Run}
 use Rattle.zk_model_work.specs.declared.parts.Closing.TheVariants as closings
@@ -83,6 +83,7 @@ flags-kept k s who (Start queue) reply j st is said others = refl
 flags-kept k s who (DrainStart queue plug) reply j st is said others = kept-drain_start s who j queue plug
 flags-kept k s who (DrainDone place) reply j st is said others = kept-answered s who j closings.Drain place
 flags-kept k s who (Unplug queue) reply j st is said others = refl
+flags-kept k s who (Stop queue) reply j st is said others = refl
 flags-kept k s who (Announce ticks) reply j st is said others =
     kept-announce s who j ticks
     (sym (told-items j s.marks s.queues (due (s.time + ticks) s.arms) s.admissions)

@@ -16,8 +16,8 @@ use Rattle.zk_model_work.specs.declared.ops.Submitted.{Submitted}
 use Rattle.zk_model_work.specs.declared.ops.Expiry.{Expiry}
 use Rattle.zk_model_work.specs.declared.ops.WorkReply.{WorkReply}
 use Rattle.zk_model_work.specs.declared.ops.WorkReply.TheVariants.{Sub, Flags, Truth, Number, Done, Now, Run}
-use Rattle.zk_model_work.specs.Answers.{submission, admitted_to, flags, is_pending, cancel_start_reply, flush_start_reply, delay_reply, schedule_reply, remaining, drain_reply, start_reply, unplug_reply, cancel_wait, flushed, flush_wait, drain_wait, is_awaited_over, closes, is_worker}
-use Rattle.zk_model_work.specs.Machine.{settle_from, change, drain, awaiting}
+use Rattle.zk_model_work.specs.Answers.{submission, admitted_to, flags, is_pending, cancel_start_reply, flush_start_reply, delay_reply, schedule_reply, remaining, drain_reply, start_reply, unplug_reply, stop_reply, cancel_wait, flushed, flush_wait, drain_wait, is_awaited_over, closes, is_worker}
+use Rattle.zk_model_work.specs.Machine.{settle_from, change, drain, stop, awaiting}
 use Rattle.zk_time.specs.declared.timeout.Timeout.{Timeout}
 use Rattle.zk_time.specs.Timeouts.{is_armed, deadline_of, queue_of, count_due, arm, disarm, due_first, drop_due}
 use Rattle.zk_queue.specs.Open.{Open, is_running, is_queued, is_idle, is_open, run, next, running, waiting, marks_of, mark, admit, drop_item, begin, end}
@@ -206,6 +206,7 @@ reply_of k who (ops.Start queue) = Some (start_reply k.queues queue)
 reply_of k who (ops.DrainStart queue plug) = Some (drain_reply (is_idle k.active queue))
 reply_of k who (ops.DrainDone place) = if may_close k closings.Drain who place then Some (Number 1) else None
 reply_of k who (ops.Unplug queue) = Some (unplug_reply k.queues queue)
+reply_of k who (ops.Stop queue) = Some (stop_reply (is_idle k.active queue) k.queues queue)
 reply_of k who (ops.Announce ticks) = Some (announce_reply k ticks)
 reply_of k who (ops.Begin queue) =
     if is_worker k.queues queue who.number then option_map (λ t. Run t.item t.number) (next k.active queue) else None
@@ -227,6 +228,7 @@ change_of k who (ops.Start queue) = record k { queues = change changes.Start k.q
 change_of k who (ops.DrainStart queue plug) = drained k who queue plug
 change_of k who (ops.DrainDone place) = closed k closings.Drain who place
 change_of k who (ops.Unplug queue) = record k { queues = change changes.Unplug k.queues queue }
+change_of k who (ops.Stop queue) = record k { queues = stop (is_idle k.active queue) k.queues queue }
 change_of k who (ops.Announce ticks) = announced k ticks
 change_of k who (ops.Begin queue) = record k { active = begin k.active queue; running = k.running + 1 }
 change_of k who (ops.End queue) = ended k queue

@@ -8,9 +8,10 @@ ghost use Rattle.zk_time.specs.Timeouts.{is_armed, due_first, drop_due, count_du
 ghost use Rattle.zk_work.specs.EngineState.{IsWhole, StandsFor, work_closes, work_grows};
 ghost use Rattle.zk_work.specs.Touched.{touched_item, told_items};
 ghost use Rattle.zk_work.specs.Words.{most_items, most_queues};
-ghost use Rattle.zk_work.specs.Engine.{item_of, answer_of, MayAdmit, admitted, submitted, disarmed, is_pending_in, delayed, delay_reply_in, hurried, expiry_of, expired_next, expired, told, announced, announce_reply, flags_of, may_close, closed, reply_of, after_reply, is_now, IsTimely};
+ghost use Rattle.zk_work.specs.Engine.{item_of, answer_of, MayAdmit, admitted, submitted, disarmed, is_pending_in, delayed, delay_reply_in, hurried, expiry_of, expired_next, expired, told, announced, announce_reply, flags_of, may_close, closed, reply_of, after_reply, IsTimely};
 
 use crate::active::{Active, settle};
+use crate::copies::copy_of;
 use crate::touched::tell_items;
 use crate::waits::{close, mark_flushing, may_close};
 use bitflags::Flags;
@@ -20,8 +21,8 @@ use zk_base::{Engine, Listed, NoMemory, Who, push_within};
 use zk_model_work::{
     BusyFlags, Change, Closing, Expiry, Item, Queue, Submitted, Wait, WorkOp, WorkReply, WorkState,
     cancel_start_reply, cancel_wait, change, drain, drain_reply, drain_wait, flush_start_reply,
-    flush_wait, fresh_queues, is_pending, is_worker, put_wait, remaining, start_reply, submission,
-    unplug_reply,
+    flush_wait, fresh_queues, is_pending, is_worker, put_wait, remaining, start_reply, stop,
+    stop_reply, submission, unplug_reply,
 };
 
 /// What an operation answers, where there is memory: its reply, where it is possible.
@@ -100,26 +101,6 @@ fn tell(told: &mut Vec<Expiry>, expiry: Expiry)
 {
     if told.push(expiry).is_err() {
         unreachable!();
-    }
-}
-
-/// The same reply once more. That of an announce holds a list, and isn't given here.
-fn copy_of(reply: &WorkReply) -> WorkReply
-    requires { is_now reply.now ≡ false }
-    ensures { result ≡ reply.now }
-{
-    match *reply {
-        WorkReply::Sub(submitted) => WorkReply::Sub(submitted),
-        WorkReply::Armed => WorkReply::Armed,
-        WorkReply::Flags(flags) => WorkReply::Flags(flags),
-        WorkReply::Truth(truth) => WorkReply::Truth(truth),
-        WorkReply::Wait => WorkReply::Wait,
-        WorkReply::WaitFor(number) => WorkReply::WaitFor(number),
-        WorkReply::Number(number) => WorkReply::Number(number),
-        WorkReply::Done => WorkReply::Done,
-        WorkReply::Already => WorkReply::Already,
-        WorkReply::Now(_, _) => unreachable!(),
-        WorkReply::Run(item, number) => WorkReply::Run(item, number),
     }
 }
 
@@ -596,6 +577,20 @@ impl WorkEngine {
         Some(reply)
     }
 
+    fn stop(&mut self, who: Who, queue: u32) -> Option<WorkReply>
+        requires whole { IsWhole self.old.state }
+        requires queue { queue < self.old.state.active.queues }
+        ensures reply { result ≡ reply_of self.old.state who (WorkOp.Stop queue) }
+        ensures next { self.new.state ≡ after_reply self.old.state who (WorkOp.Stop queue) result }
+        ensures room { self.new.room ≡ self.old.room }
+    {
+        let idle = self.active.is_idle(queue);
+        let reply = stop_reply(&self.queues, queue, idle);
+        stop(&mut self.queues, queue, idle);
+        self.entries += 1;
+        Some(reply)
+    }
+
     fn start(&mut self, who: Who, queue: u32) -> Option<WorkReply>
         requires whole { IsWhole self.old.state }
         ensures reply { result ≡ reply_of self.old.state who (WorkOp.Start queue) }
@@ -704,6 +699,7 @@ impl WorkEngine {
             WorkOp::DrainStart(queue, plug) => self.drain_start(who, queue, plug),
             WorkOp::DrainDone(place) => Ok(self.drain_done(who, place)),
             WorkOp::Unplug(queue) => Ok(self.unplug(who, queue)),
+            WorkOp::Stop(queue) => Ok(self.stop(who, queue)),
             WorkOp::Announce(_) => unreachable!(),
             WorkOp::Begin(queue) => Ok(self.begin(who, queue)),
             WorkOp::End(queue) => Ok(self.end(who, queue)),

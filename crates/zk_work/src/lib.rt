@@ -2,6 +2,7 @@
 #![tactic(auto)]
 
 mod active;
+mod copies;
 mod engine;
 mod touched;
 mod waits;

@@ -220,6 +220,7 @@ plan_of-fits decls (calls.Busy (Known item)) fits = (and_parts (is_at is_item de
 plan_of-fits decls (calls.Start (Known queue)) fits = queue-first decls queue true fits
 plan_of-fits decls (calls.Drain (Known queue) plug) fits = queue-first decls queue true fits
 plan_of-fits decls (calls.Unplug (Known queue)) fits = queue-first decls queue true fits
+plan_of-fits decls (calls.Stop (Known queue)) fits = queue-first decls queue true fits
 plan_of-fits decls (calls.Tick ticks) fits = (refl, refl)
 plan_of-fits decls (calls.Take (Known sem) timeout) fits = sem-declared decls sem (wait_fits timeout && true) fits
 plan_of-fits decls (calls.Give (Known sem)) fits = sem-declared decls sem true fits

@@ -49,6 +49,7 @@ plan_of decls (calls.Start queue) = One (steps.Work (ops.Start (ref_number decls
 plan_of decls (calls.Drain queue plug) =
     Pair (steps.Work (ops.DrainStart (ref_number decls queue) plug)) closings.Drain
 plan_of decls (calls.Unplug queue) = One (steps.Work (ops.Unplug (ref_number decls queue)))
+plan_of decls (calls.Stop queue) = One (steps.Work (ops.Stop (ref_number decls queue)))
 plan_of decls (calls.Tick ticks) =
     Twice (steps.Work (ops.Announce ticks)) (steps.Clock (clock_ops.Announce ticks))
 plan_of decls (calls.Take sem timeout) = Wait (Take (ref_object sem)) timeout

@@ -33,6 +33,7 @@ work_answer (replies.Flags flags) = Flags flags
 work_answer (replies.Truth truth) = Truth truth
 work_answer (replies.Number number) = Number number
 work_answer replies.Already = Refused Already
+work_answer replies.Busy = Refused Busy
 work_answer reply = Number 0
 
 -- what a reply of a semaphore answers to a call

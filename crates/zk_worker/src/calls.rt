@@ -306,6 +306,18 @@ fn read(chan: Ref, timeout: Timeout, stage: &Stage, index: u32, ahead: &mut Opti
     channel_ahead(ref_object(chan), &Using::Read, timeout, stage, index, ahead);
 }
 
+/// A step at the work service that names one item or one queue.
+macro_rules! one_named {
+    ($op:ident, $named:expr; $scenario:expr, $stage:expr, $index:expr, $ahead:expr) => {
+        at_work(
+            WorkOp::$op(ref_number($scenario, *$named)),
+            $stage,
+            $index,
+            $ahead,
+        )
+    };
+}
+
 /// Puts the attempt of this index among the next attempts of a call.
 // No plan is made of the call, since that would be moved about, and is large.
 pub fn call_ahead(
@@ -319,12 +331,7 @@ pub fn call_ahead(
 {
     match call {
         Call::Submit(item, queue) => at_work(submit(scenario, *item, *queue), stage, index, ahead),
-        Call::Cancel(item) => at_work(
-            WorkOp::Cancel(ref_number(scenario, *item)),
-            stage,
-            index,
-            ahead,
-        ),
+        Call::Cancel(item) => one_named!(Cancel, item; scenario, stage, index, ahead),
         Call::CancelSync(item) => work_wait(
             WorkOp::CancelStart(ref_number(scenario, *item)),
             Closing::Cancel,
@@ -351,19 +358,9 @@ pub fn call_ahead(
             index,
             ahead,
         ),
-        Call::Remaining(item) => at_work(
-            WorkOp::Remaining(ref_number(scenario, *item)),
-            stage,
-            index,
-            ahead,
-        ),
+        Call::Remaining(item) => one_named!(Remaining, item; scenario, stage, index, ahead),
         Call::Busy(item) => look_item(*item, stage, index, ahead),
-        Call::Start(queue) => at_work(
-            WorkOp::Start(ref_number(scenario, *queue)),
-            stage,
-            index,
-            ahead,
-        ),
+        Call::Start(queue) => one_named!(Start, queue; scenario, stage, index, ahead),
         Call::Drain(queue, plug) => work_wait(
             WorkOp::DrainStart(ref_number(scenario, *queue), *plug),
             Closing::Drain,
@@ -371,12 +368,8 @@ pub fn call_ahead(
             index,
             ahead,
         ),
-        Call::Unplug(queue) => at_work(
-            WorkOp::Unplug(ref_number(scenario, *queue)),
-            stage,
-            index,
-            ahead,
-        ),
+        Call::Unplug(queue) => one_named!(Unplug, queue; scenario, stage, index, ahead),
+        Call::Stop(queue) => one_named!(Stop, queue; scenario, stage, index, ahead),
         Call::Tick(ticks) => tick(*ticks, stage, index, ahead),
         Call::Take(sem, timeout) => take(*sem, *timeout, stage, index, ahead),
         Call::Give(sem) => at_sem(*sem, SemOp::Give, stage, index, ahead),
@@ -513,6 +506,7 @@ pub fn call_goes_on(
         Call::Busy(_) => answer_by(Word::Busy, reply, step, stage, answers),
         Call::Start(_) => answer_by(Word::Start, reply, step, stage, answers),
         Call::Unplug(_) => answer_by(Word::Unplug, reply, step, stage, answers),
+        Call::Stop(_) => answer_by(Word::Stop, reply, step, stage, answers),
         Call::Give(_) => answer_by(Word::Give, reply, step, stage, answers),
         Call::Reset(_) => answer_by(Word::Reset, reply, step, stage, answers),
         Call::Count(_) => answer_by(Word::Count, reply, step, stage, answers),

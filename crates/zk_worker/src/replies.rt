@@ -28,6 +28,7 @@ fn work_answer(reply: &WorkReply) -> Answer
         WorkReply::Truth(truth) => Answer::Truth(*truth),
         WorkReply::Number(number) => Answer::Number(*number),
         WorkReply::Already => Answer::Refused(Errno::Already),
+        WorkReply::Busy => Answer::Refused(Errno::Busy),
         _ => Answer::Number(0),
     }
 }
