@@ -40,6 +40,7 @@ head_of_row (Call word.Give) = refl
 head_of_row (Call word.Reset) = refl
 head_of_row (Call word.Count) = refl
 head_of_row (Call word.Put) = refl
+head_of_row (Call word.PutFront) = refl
 head_of_row (Call word.Get) = refl
 head_of_row (Call word.Peek) = refl
 head_of_row (Call word.PeekAt) = refl

@@ -162,6 +162,7 @@ pub fn call_row(word: Word) -> Row
         Word::Reset => exactly(b"reset", &[SEM]),
         Word::Count => exactly(b"count", &[SEM]),
         Word::Put => exactly(b"put", &[MSGQ, Slot::Hex, Slot::Wait]),
+        Word::PutFront => exactly(b"putfront", &[MSGQ, Slot::Hex]),
         Word::Get => exactly(b"get", &[MSGQ, Slot::Wait]),
         Word::Peek => exactly(b"peek", &[MSGQ]),
         Word::PeekAt => exactly(b"peekat", &[MSGQ, INDEX]),
@@ -190,7 +191,7 @@ pub fn call_row(word: Word) -> Row
 }
 
 /// The heads of all lines.
-const HEADS: [Head; 53] = [
+const HEADS: [Head; 54] = [
     Head::Declare(Kind::Thread),
     Head::Declare(Kind::Queue),
     Head::Declare(Kind::Item),
@@ -220,6 +221,7 @@ const HEADS: [Head; 53] = [
     Head::Call(Word::Reset),
     Head::Call(Word::Count),
     Head::Call(Word::Put),
+    Head::Call(Word::PutFront),
     Head::Call(Word::Get),
     Head::Call(Word::Peek),
     Head::Call(Word::PeekAt),

@@ -20,6 +20,7 @@ pub enum Word {
     Reset,
     Count,
     Put,
+    PutFront,
     Get,
     Peek,
     PeekAt,
