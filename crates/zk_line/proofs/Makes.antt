@@ -369,6 +369,7 @@ makes_other word.Give other = one_sem call.Give
 makes_other word.Reset other = one_sem call.Reset
 makes_other word.Count other = one_sem call.Count
 makes_other word.Put other = sending need.Msgq (λ p. call.Put p.0 p.1 p.2)
+makes_other word.PutFront other = by_line (msgq ∷ slot.Hex ∷ []) Nothing (two as_object as_bytes) (λ p. call.PutFront p.0 p.1) (two-line msgq as_object slot.Hex as_bytes (object-made need.Msgq) bytes-made)
 makes_other word.Get other = waiting need.Msgq (λ p. call.Get p.0 p.1)
 makes_other word.Peek other = one_msgq call.Peek
 makes_other word.PeekAt other = by_line (msgq ∷ index ∷ []) Nothing (two as_object as_number) (λ p. call.PeekAt p.0 p.1) (two-line msgq as_object index as_number (object-made need.Msgq) (number-made 0 (most_held - 1)))

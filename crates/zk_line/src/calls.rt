@@ -52,6 +52,9 @@ pub fn said_of(call: &Call) -> Said
         Call::Reset(sem) => of_one(Word::Reset, object(sem)),
         Call::Count(sem) => of_one(Word::Count, object(sem)),
         Call::Put(msgq, message, wait) => sent(Word::Put, msgq, message, *wait),
+        Call::PutFront(msgq, message) => {
+            of_two(Word::PutFront, object(msgq), Arg::Bytes(*message))
+        }
         Call::Get(msgq, wait) => of_two(Word::Get, object(msgq), Arg::Wait(*wait)),
         Call::Peek(msgq) => of_one(Word::Peek, object(msgq)),
         Call::PeekAt(msgq, index) => of_two(Word::PeekAt, object(msgq), Arg::Number(*index)),

@@ -2,8 +2,9 @@ ghost use Rattle.std.specs.Prelude.{◌≡◌, Some, None, [], ◌∷◌, if◌t
 ghost use Rattle.zk_line.specs.Calls.{call_of};
 
 use crate::shapes::{
-    object_bytes_wait, object_maybe, object_number, object_result, object_truth, object_wait,
-    one_number, one_object, two_objects, two_objects_number, two_objects_truth, wait_events,
+    object_bytes, object_bytes_wait, object_maybe, object_number, object_result, object_truth,
+    object_wait, one_number, one_object, two_objects, two_objects_number, two_objects_truth,
+    wait_events,
 };
 use crate::types::{Arg, Call, Ref};
 use zk_base::Msg;
@@ -165,6 +166,8 @@ fn put_other(place: &mut Call, word: Word, args: &[Arg]) -> bool
         Word::Put | Word::Publish => {
             put_if!(object_bytes_wait(args), said => put_with_message(place, word, &said.0, &said.1, said.2))
         }
+        Word::PutFront =>
+            put_if!(object_bytes(args), said => put!(place, PutFront(said.0, said.1))),
         Word::PeekAt => put_if!(object_number(args), said => put!(place, PeekAt(said.0, said.1))),
         Word::Raise => put_if!(object_result(args), said => put!(place, Raise(said.0, said.1))),
         Word::Poll => put_if!(wait_events(args), said => put!(place, Poll(said.0, said.1))),

@@ -101,6 +101,7 @@ pub fn need_at(call: &Call, index: u32) -> Option<Needed>
         Call::Reset(sem) => one(*sem, Need::Sem, index),
         Call::Count(sem) => one(*sem, Need::Sem, index),
         Call::Put(queue, _, _) => one(*queue, Need::Msgq, index),
+        Call::PutFront(queue, _) => one(*queue, Need::Msgq, index),
         Call::Get(queue, _) => one(*queue, Need::Msgq, index),
         Call::Peek(queue) => one(*queue, Need::Msgq, index),
         Call::PeekAt(queue, _) => one(*queue, Need::Msgq, index),

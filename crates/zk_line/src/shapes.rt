@@ -131,6 +131,16 @@ pub fn object_wait(args: &[Arg]) -> Option<(Ref, Timeout)>
     }
 }
 
+/// An object and a message for it.
+pub fn object_bytes(args: &[Arg]) -> Option<(Ref, Msg)>
+    ensures { result ≡ two as_object as_bytes args.now }
+{
+    match args {
+        [Arg::Object(object), Arg::Bytes(message)] => Some((*object, *message)),
+        _ => None,
+    }
+}
+
 /// An object, a message for it, and how long is waited for it.
 pub fn object_bytes_wait(args: &[Arg]) -> Option<(Ref, Msg, Timeout)>
     ensures { result ≡ three as_object as_bytes as_wait args.now }

@@ -111,11 +111,13 @@ pub enum Call {
     Count(Ref),
     /// A message queue, and a message of its size. Zephyr's `k_msgq_put`.
     Put(Ref, Msg, Timeout),
+    /// A message queue, and a message of its size. Zephyr's `k_msgq_put_front`.
+    PutFront(Ref, Msg),
     /// A message queue. Zephyr's `k_msgq_get`.
     Get(Ref, Timeout),
     /// A message queue. Zephyr's `k_msgq_peek`.
     Peek(Ref),
-    /// A message queue, and a place among its messages, from 0, the oldest first. Zephyr's `k_msgq_peek_at`.
+    /// A message queue, and a place among its messages, from 0 for the first. Zephyr's `k_msgq_peek_at`.
     PeekAt(Ref, u32),
     /// A message queue. Zephyr's `k_msgq_purge`.
     Purge(Ref),

@@ -2,11 +2,12 @@
 use Rattle.std.proofs.Common.{◌≡◌, ℕ, suc, ◌+◌, ◌-◌, ◌<◌, ◌≤◌, ◌⊎◌, inl, inr, All, Bool, true, false, ltb, eqb, cond, ◌&&◌, ◌||◌, Option, Some, List, [], ◌∷◌, ◌++◌, length, refl, sym, ap, subst, ◌∙◌, append_assoc, append-nil, arith}
 use Rattle.std.specs.List.{list_any, count_by}
 use Rattle.std.specs.Option.{option_map_or}
-use Rattle.std.proofs.lemmas.Bool.{ltb-true}
+use Rattle.std.specs.Str.{bytes_eq}
+use Rattle.std.proofs.lemmas.Bool.{ltb-true, eqb-true}
 use Rattle.std.proofs.lemmas.Bool.Decides.{nat_tests}
 use Rattle.std.proofs.lemmas.List.{length-append}
 use Rattle.std.proofs.lemmas.List.Elements.{All-head, All-tail}
-use Rattle.std.proofs.lemmas.List.Sums.{sum_by-cons}
+use Rattle.std.proofs.lemmas.List.Sums.{sum_by-cons, sum_by-append}
 use Rattle.std.proofs.lemmas.Option.{same_Some, slice_get_past}
 use Rattle.zk_base.specs.declared.ids.Who.{Who}
 use Rattle.zk_base.specs.declared.ids.Entry.{Entry}
@@ -25,9 +26,9 @@ use Rattle.zk_model_wait.specs.declared.msgq.MsgqOp.{MsgqOp}
 use Rattle.zk_model_wait.specs.declared.msgq.MsgqOp.TheVariants as ops
 use Rattle.zk_model_wait.specs.declared.msgq.MsgqReply.{MsgqReply}
 use Rattle.zk_model_wait.specs.declared.msgq.MsgqReply.TheVariants.{Done, NoMsg, Bytes, Number}
-use Rattle.zk_model_wait.specs.Msgq.{Msgq, new_msgq, else_reply, put_reply, get_reply, peek_reply, msgq_reply, msgq_next, msgq_machine, put_at_full, appended, put_to, moved_in, get_from}
+use Rattle.zk_model_wait.specs.Msgq.{Msgq, new_msgq, else_reply, put_reply, get_reply, peek_reply, msgq_reply, msgq_next, msgq_machine, put_at_full, appended, put_to, prepended, put_front_to, moved_in, get_from}
 use Rattle.zk_model_wait.specs.MsgqWaits.{get_decides, put_decides, take_decides, putters, getters}
-use Rattle.zk_model_wait.specs.MsgqLaws.{MsgqHistory, OfEachMsgq, msgq_after_all, message_of, is_done, moved_by, accepted, leaving, all_accepted, all_leaving, PutIsTold, GetIsTold, PeekIsTold, FirstInFirstOut, RingWithinMax, NoneWaitsToGetWhileMessages, NoneWaitsToPutWhileRoom, PutWaitsOnlyAtFull, GetWaitsOnlyAtEmpty, PutDecidedByGetOrPurge, GetDecidedByItsPut, LooksTellTheRing, PurgeEndsEveryPut, MayAlways, PurgeIsDone}
+use Rattle.zk_model_wait.specs.MsgqLaws.{MsgqHistory, OfEachMsgq, msgq_after_all, message_of, is_done, moved_by, accepted, leaving, all_accepted, all_leaving, goes_in_front, some_in_front, message_put, times, PutIsTold, GetIsTold, PeekIsTold, FirstInFirstOut, PutFrontGoesFirst, NothingIsLost, RingWithinMax, NoneWaitsToGetWhileMessages, NoneWaitsToPutWhileRoom, PutWaitsOnlyAtFull, PutFrontIsTold, GetWaitsOnlyAtEmpty, PutDecidedByGetOrPurge, GetDecidedByItsPut, LooksTellTheRing, PurgeEndsEveryPut, MayAlways, PurgeIsDone}
 use Rattle.zk_model_wait.proofs.MsgqWaits.{has_putters, has_getters, first_putters, first_getters}
 use Rattle.zk_model_wait.proofs.SemCounts.{without-nil}
 
@@ -67,6 +68,22 @@ put-served most [] q who message waits none is = by (ltb (length q.messages) q.m
       record { holds = is.holds; within = is.within; gets = is.gets; puts = λ room. absurd (omega arith) }
   by false full false = is
 
+front-served : (most : ℕ) (waiting : List (Waiter Unit)) (q : Msgq) (message : List ℕ) → q.gets.waiting ≡ waiting →
+    IsServed most q → IsServed most (put_front_to waiting q message)
+front-served most (w ∷ ws) q message some is = record {
+  holds = is.holds;
+  within = is.within;
+  gets = λ above. absurd (some-waits w ws q.gets.waiting some (is.gets above));
+  puts = is.puts;
+}
+front-served most [] q message none is = by (ltb (length q.messages) q.most) refl where
+  by : (room : Bool) → ltb (length q.messages) q.most ≡ room → IsServed most (cond room (prepended q message) q)
+  by true below =
+      let less = ltb-true (length q.messages) q.most below in
+      let same = is.holds in
+      record { holds = is.holds; within = omega arith; gets = λ above. none; puts = λ room. is.puts (omega arith) }
+  by false full = is
+
 moved-served : (most : ℕ) (waiting : List (Waiter (List ℕ))) (m : List ℕ) (ms : List (List ℕ)) (q : Msgq) →
     q.puts.waiting ≡ waiting → q.messages ≡ m ∷ ms → IsServed most q →
     IsServed most (moved_in waiting (record q { messages = ms }))
@@ -96,6 +113,9 @@ get-served most [] q who false none is = is
 next-served : (most : ℕ) (q : Msgq) (who : Who) (op : MsgqOp) → IsServed most q → IsServed most (msgq_next q who op)
 next-served most q who (ops.Put message waits) is =
     let after = put-served most q.gets.waiting q who message waits refl is in
+    record { holds = after.holds; within = after.within; gets = after.gets; puts = after.puts }
+next-served most q who (ops.PutFront message) is =
+    let after = front-served most q.gets.waiting q message refl is in
     record { holds = after.holds; within = after.within; gets = after.gets; puts = after.puts }
 next-served most q who (ops.PutEnd place) is = record { holds = is.holds; within = is.within; gets = is.gets; puts = is.puts }
 next-served most q who (ops.PutQuit place) is =
@@ -137,7 +157,7 @@ none_waits_to_get most h legal above = (served-all most (new_msgq most) h (serve
 pub none_waits_to_put : OfEachMsgq NoneWaitsToPutWhileRoom
 none_waits_to_put most h legal room = (served-all most (new_msgq most) h (served-new most)).puts room
 
--- An entry puts behind what it accepts, and takes off the front what leaves.
+-- An entry puts behind what it accepts, unless it goes in front, and takes off the front what leaves.
 
 -- whose wait isn't decided moves nothing in
 any-apart : (place : ℕ) (ds : List (Decision MsgqReply)) →
@@ -204,6 +224,21 @@ put-passes most [] q who message waits none is apart = by (ltb (length q.message
   by false true = append-nil q.messages ∙ sym (ap (λ (ms : List (List ℕ)). ms ++ q.messages) (handed-none message_of q.gets))
   by false false = append-nil q.messages ∙ sym (ap (λ (ms : List (List ℕ)). ms ++ q.messages) (handed-none message_of q.gets))
 
+-- a put in front does the same where a get waits
+front-passes : (most : ℕ) (waiting : List (Waiter Unit)) (q : Msgq) (who : Who) (message : List ℕ) → q.gets.waiting ≡ waiting →
+    IsServed most q → AreApart q → (is_done (put_reply waiting q false) && eqb (length waiting) 0) ≡ false →
+    q.messages ++ accepted q (put_front_to waiting q message) (ops.PutFront message) (put_reply waiting q false)
+    ≡ leaving q (put_front_to waiting q message) (ops.PutFront message) (put_reply waiting q false)
+    ++ (put_front_to waiting q message).messages
+front-passes most (w ∷ ws) q who message some is apart behind = put-passes most (w ∷ ws) q who message false some is apart
+front-passes most [] q who message none is apart behind = by (ltb (length q.messages) q.most) behind where
+  by : (room : Bool) → (is_done (cond room Done NoMsg) && true) ≡ false →
+      q.messages ++ accepted q (cond room (prepended q message) q) (ops.PutFront message) (cond room Done NoMsg)
+      ≡ leaving q (cond room (prepended q message) q) (ops.PutFront message) (cond room Done NoMsg)
+      ++ (cond room (prepended q message) q).messages
+  by true isnt = absurd (cc)
+  by false isnt = append-nil q.messages ∙ sym (ap (λ (ms : List (List ℕ)). ms ++ q.messages) (handed-none message_of q.gets))
+
 moved-passes : (waiting : List (Waiter (List ℕ))) (ms : List (List ℕ)) (q : Msgq) → q.puts.waiting ≡ waiting →
     AreApart (moved_in waiting (record q { messages = ms })) →
     ms ++ moved_by (moved_in waiting (record q { messages = ms })).puts waiting
@@ -229,31 +264,44 @@ get-passes [] q who true none apart next = moved-none q.puts q.puts.waiting apar
 get-passes [] q who false none apart next = moved-none q.puts q.puts.waiting apart.puts ∙ sym none
 
 next-passes : (most : ℕ) (q : Msgq) (who : Who) (op : MsgqOp) (reply : MsgqReply) → IsServed most q → AreApart q →
-    AreApart (msgq_next q who op) → msgq_reply q who op ≡ Some reply →
+    AreApart (msgq_next q who op) → msgq_reply q who op ≡ Some reply → goes_in_front q op reply ≡ false →
     q.messages ++ accepted q (msgq_next q who op) op reply ≡ leaving q (msgq_next q who op) op reply
     ++ (msgq_next q who op).messages
-next-passes most q who (ops.Put message waits) reply is apart next told =
+next-passes most q who (ops.Put message waits) reply is apart next told behind =
     subst (λ (r : MsgqReply). q.messages ++ accepted q (msgq_next q who (ops.Put message waits)) (ops.Put message waits) r
     ≡ leaving q (msgq_next q who (ops.Put message waits)) (ops.Put message waits) r
     ++ (msgq_next q who (ops.Put message waits)).messages)
     (same_Some (put_reply q.gets.waiting q waits) reply told) (put-passes most q.gets.waiting q who message waits refl is apart)
-next-passes most q who (ops.Get waits) reply is apart next told =
+next-passes most q who (ops.PutFront message) reply is apart next told behind =
+    let same = same_Some (put_reply q.gets.waiting q false) reply told in
+    subst (λ (r : MsgqReply). q.messages ++ accepted q (msgq_next q who (ops.PutFront message)) (ops.PutFront message) r
+    ≡ leaving q (msgq_next q who (ops.PutFront message)) (ops.PutFront message) r
+    ++ (msgq_next q who (ops.PutFront message)).messages)
+    same
+    (front-passes most q.gets.waiting q who message refl is apart
+    (subst (λ (r : MsgqReply). (is_done r && eqb (length q.gets.waiting) 0) ≡ false) (sym same) behind))
+next-passes most q who (ops.Get waits) reply is apart next told behind =
     subst (λ (r : MsgqReply). q.messages ++ moved_by (msgq_next q who (ops.Get waits)).puts q.puts.waiting
     ≡ message_of r ++ (msgq_next q who (ops.Get waits)).messages)
     (same_Some (get_reply q.messages waits) reply told)
     (get-passes q.messages q who waits refl apart (record { puts = next.puts; gets = next.gets }))
-next-passes most q who ops.Purge reply is apart next told = refl
-next-passes most q who op reply is apart next told = append-nil q.messages
+next-passes most q who ops.Purge reply is apart next told behind = refl
+next-passes most q who op reply is apart next told behind = append-nil q.messages
+
+neither-of : (a b : Bool) → (a || b) ≡ false → (a ≡ false) × (b ≡ false)
+neither-of true b is = absurd (cc)
+neither-of false b is = (refl, is)
 
 passes-all : (most : ℕ) (q : Msgq) (h : MsgqHistory) → IsServed most q →
     ((front rest : MsgqHistory) → h ≡ front ++ rest → AreApart (msgq_after_all q front)) → Replays msgq_machine q h →
-    q.messages ++ all_accepted q h ≡ all_leaving q h ++ (msgq_after_all q h).messages
-passes-all most q [] is apart replays = append-nil q.messages
-passes-all most q (e ∷ es) is apart replays =
+    some_in_front q h ≡ false → q.messages ++ all_accepted q h ≡ all_leaving q h ++ (msgq_after_all q h).messages
+passes-all most q [] is apart replays behind = append-nil q.messages
+passes-all most q (e ∷ es) is apart replays behind =
     let next = msgq_next q e.who e.op in
-    let here = next-passes most q e.who e.op e.reply is (apart [] (e ∷ es) refl) (apart (e ∷ []) es refl) replays.0 in
+    let neither = neither-of (goes_in_front q e.op e.reply) (some_in_front next es) behind in
+    let here = next-passes most q e.who e.op e.reply is (apart [] (e ∷ es) refl) (apart (e ∷ []) es refl) replays.0 neither.0 in
     let rest = passes-all most next es (next-served most q e.who e.op is)
-    (λ front back parts. apart (e ∷ front) back (ap (λ (l : MsgqHistory). e ∷ l) parts)) replays.1 in
+    (λ front back parts. apart (e ∷ front) back (ap (λ (l : MsgqHistory). e ∷ l) parts)) replays.1 neither.1 in
     let taken = accepted q next e.op e.reply in
     let gone = leaving q next e.op e.reply in
     sym (append_assoc q.messages taken (all_accepted next es)) ∙ ap (λ (ms : List (List ℕ)). ms ++ all_accepted next es) here
@@ -266,18 +314,115 @@ apart-all most h replays = record {
   gets = waits-apart msgq_machine getters has_getters (new_msgq most) h (first_getters most) replays;
 }
 
+-- and so they are at each front of what comes after a front
+apart-rest : (most : ℕ) (front part : MsgqHistory) → Replays msgq_machine (new_msgq most) (front ++ part) →
+    (f r : MsgqHistory) → part ≡ f ++ r → AreApart (msgq_after_all (msgq_after_all (new_msgq most) front) f)
+apart-rest most front part replays f r split =
+    let new = new_msgq most in
+    let all = subst (Replays msgq_machine new) (ap (λ (l : MsgqHistory). front ++ l) split ∙ sym (append_assoc front f r)) replays in
+    subst AreApart (state_after-append msgq_machine new front f)
+    (apart-all most (front ++ f) (Replays-front msgq_machine new (front ++ f) r all))
+
 pub first_in_first_out : OfEachMsgq FirstInFirstOut
-first_in_first_out most h legal front part parts =
+first_in_first_out most h legal front part parts behind =
     let new = new_msgq most in
     let q = msgq_after_all new front in
     let both = subst (Replays msgq_machine new) parts legal.0 in
     let whole = ap (msgq_after_all new) parts ∙ state_after-append msgq_machine new front part in
-    let apart : (f r : MsgqHistory) → part ≡ f ++ r → AreApart (msgq_after_all q f) = λ f r split.
-    let all = subst (Replays msgq_machine new) (ap (λ (l : MsgqHistory). front ++ l) split ∙ sym (append_assoc front f r)) both in
-    subst AreApart (state_after-append msgq_machine new front f)
-    (apart-all most (front ++ f) (Replays-front msgq_machine new (front ++ f) r all)) in
-    passes-all most q part (served-all most new front (served-new most)) apart (Replays-rest msgq_machine new front part both)
+    passes-all most q part (served-all most new front (served-new most)) (apart-rest most front part both)
+    (Replays-rest msgq_machine new front part both) behind
     ∙ ap (λ (r : Msgq). all_leaving q part ++ r.messages) (sym whole)
+
+-- Each message is counted as often before an entry as after it, be it put behind or in front.
+
+times-append : (message : List ℕ) (xs ys : List (List ℕ)) → times message (xs ++ ys) ≡ times message xs + times message ys
+times-append message xs ys = sum_by-append (λ (m : List ℕ). one_if (bytes_eq message m)) xs ys
+
+put-anywhere : (message put : List ℕ) (ms : List (List ℕ)) → times message (ms ++ put ∷ []) ≡ times message (put ∷ ms)
+put-anywhere message put ms =
+    let behind = times-append message ms (put ∷ []) in
+    let before : times message (put ∷ ms) ≡ times message (put ∷ []) + times message ms = times-append message (put ∷ []) ms in
+    omega (arith, behind, before)
+
+front-counts : (message : List ℕ) (waiting : List (Waiter Unit)) (q : Msgq) (put : List ℕ) →
+    (is_done (put_reply waiting q false) && eqb (length waiting) 0) ≡ true →
+    times message (q.messages ++ accepted q (put_front_to waiting q put) (ops.PutFront put) (put_reply waiting q false))
+    ≡ times message (leaving q (put_front_to waiting q put) (ops.PutFront put) (put_reply waiting q false)
+    ++ (put_front_to waiting q put).messages)
+front-counts message (w ∷ ws) q put first = absurd (let none = eqb-true (length (w ∷ ws)) 0 first in omega arith)
+front-counts message [] q put first = by (ltb (length q.messages) q.most) first where
+  by : (room : Bool) → (is_done (cond room Done NoMsg) && true) ≡ true →
+      times message (q.messages ++ accepted q (cond room (prepended q put) q) (ops.PutFront put) (cond room Done NoMsg))
+      ≡ times message (leaving q (cond room (prepended q put) q) (ops.PutFront put) (cond room Done NoMsg)
+      ++ (cond room (prepended q put) q).messages)
+  by true is =
+      put-anywhere message put q.messages
+      ∙ sym (ap (λ (ms : List (List ℕ)). times message (ms ++ put ∷ q.messages)) (handed-none message_of q.gets))
+  by false is = absurd (cc)
+
+first-counts : (message : List ℕ) (q : Msgq) (who : Who) (op : MsgqOp) (reply : MsgqReply) → msgq_reply q who op ≡ Some reply →
+    goes_in_front q op reply ≡ true →
+    times message (q.messages ++ accepted q (msgq_next q who op) op reply)
+    ≡ times message (leaving q (msgq_next q who op) op reply ++ (msgq_next q who op).messages)
+first-counts message q who (ops.PutFront put) reply told first =
+    let same = same_Some (put_reply q.gets.waiting q false) reply told in
+    subst (λ (r : MsgqReply).
+    times message (q.messages ++ accepted q (msgq_next q who (ops.PutFront put)) (ops.PutFront put) r)
+    ≡ times message (leaving q (msgq_next q who (ops.PutFront put)) (ops.PutFront put) r
+    ++ (msgq_next q who (ops.PutFront put)).messages))
+    same
+    (front-counts message q.gets.waiting q put
+    (subst (λ (r : MsgqReply). (is_done r && eqb (length q.gets.waiting) 0) ≡ true) (sym same) first))
+first-counts message q who op reply told first = absurd (cc)
+
+next-counts : (message : List ℕ) (most : ℕ) (q : Msgq) (who : Who) (op : MsgqOp) (reply : MsgqReply) → IsServed most q →
+    AreApart q → AreApart (msgq_next q who op) → msgq_reply q who op ≡ Some reply →
+    times message (q.messages ++ accepted q (msgq_next q who op) op reply)
+    ≡ times message (leaving q (msgq_next q who op) op reply ++ (msgq_next q who op).messages)
+next-counts message most q who op reply is apart next told = by (goes_in_front q op reply) refl where
+  by : (b : Bool) → goes_in_front q op reply ≡ b →
+      times message (q.messages ++ accepted q (msgq_next q who op) op reply)
+      ≡ times message (leaving q (msgq_next q who op) op reply ++ (msgq_next q who op).messages)
+  by true first = first-counts message q who op reply told first
+  by false behind = ap (times message) (next-passes most q who op reply is apart next told behind)
+
+-- what is counted as often along two parts is counted as often along both
+times-along : (message : List ℕ) (there taken later gone next left last : List (List ℕ)) →
+    times message (there ++ taken) ≡ times message (gone ++ next) →
+    times message (next ++ later) ≡ times message (left ++ last) →
+    times message (there ++ (taken ++ later)) ≡ times message ((gone ++ left) ++ last)
+times-along message there taken later gone next left last here rest =
+    let a = times-append message there (taken ++ later) in
+    let b = times-append message taken later in
+    let c = times-append message there taken in
+    let d = times-append message gone next in
+    let e = times-append message next later in
+    let f = times-append message left last in
+    let g = times-append message (gone ++ left) last in
+    let i = times-append message gone left in
+    omega arith
+
+counts-all : (message : List ℕ) (most : ℕ) (q : Msgq) (h : MsgqHistory) → IsServed most q →
+    ((front rest : MsgqHistory) → h ≡ front ++ rest → AreApart (msgq_after_all q front)) → Replays msgq_machine q h →
+    times message (q.messages ++ all_accepted q h) ≡ times message (all_leaving q h ++ (msgq_after_all q h).messages)
+counts-all message most q [] is apart replays = ap (times message) (append-nil q.messages)
+counts-all message most q (e ∷ es) is apart replays =
+    let next = msgq_next q e.who e.op in
+    times-along message q.messages (accepted q next e.op e.reply) (all_accepted next es)
+    (leaving q next e.op e.reply) next.messages (all_leaving next es) (msgq_after_all next es).messages
+    (next-counts message most q e.who e.op e.reply is (apart [] (e ∷ es) refl) (apart (e ∷ []) es refl) replays.0)
+    (counts-all message most next es (next-served most q e.who e.op is)
+    (λ front back parts. apart (e ∷ front) back (ap (λ (l : MsgqHistory). e ∷ l) parts)) replays.1)
+
+pub nothing_is_lost : OfEachMsgq NothingIsLost
+nothing_is_lost most h legal front part message parts =
+    let new = new_msgq most in
+    let q = msgq_after_all new front in
+    let both = subst (Replays msgq_machine new) parts legal.0 in
+    let whole = ap (msgq_after_all new) parts ∙ state_after-append msgq_machine new front part in
+    counts-all message most q part (served-all most new front (served-new most)) (apart-rest most front part both)
+    (Replays-rest msgq_machine new front part both)
+    ∙ ap (λ (r : Msgq). times message (all_leaving q part ++ r.messages)) (sym whole)
 
 -- What one entry is answered, and what it leaves.
 
@@ -286,6 +431,27 @@ pub replied : (q : Msgq) (h front : MsgqHistory) (e : Entry MsgqOp MsgqReply) (o
 replied q h front e op replays at same =
     subst (λ (o : MsgqOp). msgq_reply (msgq_after_all q front) e.who o ≡ Some e.reply) same
     ((Replays-rest msgq_machine q front (e ∷ at.rest) (subst (Replays msgq_machine q) at.whole replays)).0)
+
+front-first : (waiting : List (Waiter Unit)) (q : Msgq) (message : List ℕ) →
+    (is_done (put_reply waiting q false) && eqb (length waiting) 0) ≡ true →
+    (put_front_to waiting q message).messages ≡ message ∷ q.messages
+front-first (w ∷ ws) q message first = absurd (let none = eqb-true (length (w ∷ ws)) 0 first in omega arith)
+front-first [] q message first = by (ltb (length q.messages) q.most) first where
+  by : (room : Bool) → (is_done (cond room Done NoMsg) && true) ≡ true →
+      (cond room (prepended q message) q).messages ≡ message ∷ q.messages
+  by true is = refl
+  by false is = absurd (cc)
+
+pub put_front_goes_first : OfEachMsgq PutFrontGoesFirst
+put_front_goes_first most h legal front e message at op first =
+    let new = new_msgq most in
+    let q = msgq_after_all new front in
+    let after = state_after-snoc msgq_machine new front e ∙ ap (msgq_next q e.who) op in
+    let told = same_Some (put_reply q.gets.waiting q false) e.reply (replied new h front e (ops.PutFront message) legal.0 at op) in
+    let alone = subst (λ (o : MsgqOp). goes_in_front q o e.reply ≡ true) op first in
+    ap (λ (r : Msgq). r.messages) after
+    ∙ front-first q.gets.waiting q message
+    (subst (λ (r : MsgqReply). (is_done r && eqb (length q.gets.waiting) 0) ≡ true) (sym told) alone)
 
 put-told : (most : ℕ) (waiting : List (Waiter Unit)) (q : Msgq) (waits : Bool) → q.gets.waiting ≡ waiting →
     q.most ≡ most → PutIsTold most q waits (put_reply waiting q waits)
@@ -333,6 +499,15 @@ put_waits_only_at_full most h legal front e message waits at op =
     (same_Some (put_reply q.gets.waiting q waits) e.reply
     (replied (new_msgq most) h front e (ops.Put message waits) legal.0 at op))
     (put-told most q.gets.waiting q waits refl holds)
+
+pub put_front_is_told : OfEachMsgq PutFrontIsTold
+put_front_is_told most h legal front e message at op =
+    let q = msgq_after_all (new_msgq most) front in
+    let holds = (served-all most (new_msgq most) front (served-new most)).holds in
+    subst (PutIsTold most q false)
+    (same_Some (put_reply q.gets.waiting q false) e.reply
+    (replied (new_msgq most) h front e (ops.PutFront message) legal.0 at op))
+    (put-told most q.gets.waiting q false refl holds)
 
 get-told : (messages : List (List ℕ)) (q : Msgq) (waits : Bool) → q.messages ≡ messages →
     GetIsTold q waits (get_reply messages waits)
@@ -407,9 +582,11 @@ put_decided_by_get_or_purge most h legal front e d at decides =
 
 get-decided : (q : Msgq) (op own : MsgqOp) (reply said_so answer : MsgqReply) → op ≡ own → reply ≡ said_so →
     said (take_decides q own said_so) ≡ Some answer →
-    (message : List ℕ) × (waits : Bool) × (op ≡ ops.Put message waits) × (reply ≡ Done) × (answer ≡ Bytes message)
+    (message : List ℕ) × (message_put op ≡ Some message) × (reply ≡ Done) × (answer ≡ Bytes message)
 get-decided q op (ops.Put message waits) reply Done answer same told is =
-    (message, waits, same, told, sym (same_Some (Bytes message) answer is))
+    (message, ap message_put same, told, sym (same_Some (Bytes message) answer is))
+get-decided q op (ops.PutFront message) reply Done answer same told is =
+    (message, ap message_put same, told, sym (same_Some (Bytes message) answer is))
 get-decided q op own reply said_so answer same told is = absurd (cc)
 
 pub get_decided_by_its_put : OfEachMsgq GetDecidedByItsPut
@@ -420,6 +597,7 @@ get_decided_by_its_put most h legal front e d at decides =
 
 pub may_always : (q : Msgq) (h : MsgqHistory) → MayAlways q h
 may_always q h who (ops.Put message waits) never = (_, refl)
+may_always q h who (ops.PutFront message) never = (_, refl)
 may_always q h who (ops.Get waits) never = (_, refl)
 may_always q h who ops.Peek never = (_, refl)
 may_always q h who (ops.PeekAt index) never = (_, refl)

@@ -7,7 +7,7 @@ use Rattle.zk_base.proofs.WaitMoves.{open-joined, open-ended, open-ended-most, o
 use Rattle.zk_model_wait.specs.declared.msgq.MsgqOp.{MsgqOp}
 use Rattle.zk_model_wait.specs.declared.msgq.MsgqOp.TheVariants as ops
 use Rattle.zk_model_wait.specs.declared.msgq.MsgqReply.TheVariants.{Done, NoMsg, Again, Bytes, Noted, Plain}
-use Rattle.zk_model_wait.specs.Msgq.{Msgq, open_calls, msgq_reply, msgq_next, msgq_in_range, msgq_closes, put_at_full, appended, put_to, moved_in, get_from, arm_at}
+use Rattle.zk_model_wait.specs.Msgq.{Msgq, open_calls, msgq_reply, msgq_next, msgq_in_range, msgq_closes, put_at_full, appended, put_to, prepended, put_front_to, moved_in, get_from, arm_at}
 
 -- each entry is counted
 pub counts : (q : Msgq) (who : Who) (op : MsgqOp) → (msgq_next q who op).entries ≡ q.entries + 1
@@ -35,6 +35,13 @@ put-adds : (waiting : List (Waiter Unit)) (q : Msgq) (who : Who) (message : List
 put-adds (w ∷ ws) q who message waits = let same = open-first (Bytes message) q.gets in omega arith
 put-adds [] q who message waits = either-adds q who message waits (nat_lt (length q.messages) q.most)
 
+front-adds : (waiting : List (Waiter Unit)) (q : Msgq) (message : List ℕ) → open_calls (put_front_to waiting q message) ≤ open_calls q + 2
+front-adds (w ∷ ws) q message = let same = open-first (Bytes message) q.gets in omega arith
+front-adds [] q message = by (nat_lt (length q.messages) q.most) where
+  by : (room : Bool) → open_calls (cond room (prepended q message) q) ≤ open_calls q + 2
+  by true = let same = open-first Noted q.pollers in omega arith
+  by false = omega arith
+
 moved-adds : (waiting : List (Waiter (List ℕ))) (q : Msgq) → open_calls (moved_in waiting q) ≤ open_calls q
 moved-adds [] q = omega arith
 moved-adds (w ∷ ws) q = let same = open-first Done q.puts in omega arith
@@ -54,6 +61,7 @@ arm-adds [] q who false = omega arith
 -- an operation adds at most two owed entries
 pub adds : (q : Msgq) (who : Who) (op : MsgqOp) → open_calls (msgq_next q who op) ≤ open_calls q + 2
 adds q who (ops.Put message waits) = put-adds q.gets.waiting q who message waits
+adds q who (ops.PutFront message) = front-adds q.gets.waiting q message
 adds q who (ops.PutEnd place) = let most = open-ended-most q.puts who.number place in omega arith
 adds q who (ops.PutQuit place) = let most = open-quitted-most q.puts who.number place in omega arith
 adds q who (ops.Get waits) = get-adds q.messages q who waits

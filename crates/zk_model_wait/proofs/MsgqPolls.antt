@@ -12,10 +12,10 @@ use Rattle.zk_base.proofs.WaitsKept.{keeps_waits}
 use Rattle.zk_model_wait.specs.declared.msgq.MsgqOp.{MsgqOp}
 use Rattle.zk_model_wait.specs.declared.msgq.MsgqOp.TheVariants as ops
 use Rattle.zk_model_wait.specs.declared.msgq.MsgqReply.{MsgqReply}
-use Rattle.zk_model_wait.specs.declared.msgq.MsgqReply.TheVariants.{Done, Noted}
-use Rattle.zk_model_wait.specs.Msgq.{Msgq, new_msgq, else_reply, put_reply, poll_reply, msgq_reply, msgq_next, msgq_machine, put_at_full, appended, put_to, moved_in, get_from, arm_at}
+use Rattle.zk_model_wait.specs.declared.msgq.MsgqReply.TheVariants.{Done, NoMsg, Noted}
+use Rattle.zk_model_wait.specs.Msgq.{Msgq, new_msgq, else_reply, put_reply, poll_reply, msgq_reply, msgq_next, msgq_machine, put_at_full, appended, put_to, prepended, put_front_to, moved_in, get_from, arm_at}
 use Rattle.zk_model_wait.specs.MsgqWaits.{poll_opens, put_notifies, poll_decides, pollers}
-use Rattle.zk_model_wait.specs.MsgqLaws.{MsgqHistory, OfEachMsgq, msgq_after_all, PollIsTold, IsChance, polls, PollArmAnswers, NotedAtAChance, EachChanceNotesOne, PollingTakesNothing}
+use Rattle.zk_model_wait.specs.MsgqLaws.{MsgqHistory, OfEachMsgq, msgq_after_all, message_put, PollIsTold, IsChance, polls, PollArmAnswers, NotedAtAChance, EachChanceNotesOne, PollingTakesNothing}
 use Rattle.zk_model_wait.specs.Polls.{NotesOne}
 use Rattle.zk_model_wait.proofs.MsgqOrder.{replied}
 use Rattle.zk_model_wait.proofs.Polls.{one-noted}
@@ -36,6 +36,15 @@ put-polls : (waiting : List (Waiter Unit)) (q : Msgq) (who : Who) (message : Lis
     (put_to waiting q who message waits).pollers ≡ after_decision (put_notifies waiting (put_reply waiting q waits)) q.pollers
 put-polls (w ∷ ws) q who message waits = refl
 put-polls [] q who message waits = room-polls q who message waits (ltb (length q.messages) q.most)
+
+front-polls : (waiting : List (Waiter Unit)) (q : Msgq) (message : List ℕ) →
+    (put_front_to waiting q message).pollers ≡ after_decision (put_notifies waiting (put_reply waiting q false)) q.pollers
+front-polls (w ∷ ws) q message = refl
+front-polls [] q message = by (ltb (length q.messages) q.most) where
+  by : (room : Bool) →
+      (cond room (prepended q message) q).pollers ≡ after_decision (put_notifies [] (cond room Done NoMsg)) q.pollers
+  by true = refl
+  by false = refl
 
 moved-polls : (waiting : List (Waiter (List ℕ))) (q : Msgq) → (moved_in waiting q).pollers ≡ q.pollers
 moved-polls [] q = refl
@@ -66,6 +75,10 @@ poll-moves q who (ops.Put message waits) reply is =
     subst (λ (r : MsgqReply). (put_to q.gets.waiting q who message waits).pollers
     ≡ after_decision (put_notifies q.gets.waiting r) q.pollers)
     (same_Some (put_reply q.gets.waiting q waits) reply is) (put-polls q.gets.waiting q who message waits)
+poll-moves q who (ops.PutFront message) reply is =
+    subst (λ (r : MsgqReply). (put_front_to q.gets.waiting q message).pollers
+    ≡ after_decision (put_notifies q.gets.waiting r) q.pollers)
+    (same_Some (put_reply q.gets.waiting q false) reply is) (front-polls q.gets.waiting q message)
 poll-moves q who (ops.PutEnd place) reply is = refl
 poll-moves q who (ops.PutQuit place) reply is = refl
 poll-moves q who (ops.Get waits) reply is = get-polls q.messages q who waits
@@ -138,7 +151,10 @@ noted-so : (q : Msgq) (e : Entry MsgqOp MsgqReply) (own : MsgqOp) (answer : Msgq
     said (poll_decides q own e.reply) ≡ Some answer → IsChance q e × (answer ≡ Noted)
 noted-so q e (ops.Put message waits) answer same is =
     let so = notified-so q.gets.waiting e.reply answer is in
-    (record { put = (message, waits, same); done = so.1; nobody = so.0 }, so.2)
+    (record { put = (message, ap message_put same); done = so.1; nobody = so.0 }, so.2)
+noted-so q e (ops.PutFront message) answer same is =
+    let so = notified-so q.gets.waiting e.reply answer is in
+    (record { put = (message, ap message_put same); done = so.1; nobody = so.0 }, so.2)
 noted-so q e own answer same is = absurd (cc)
 
 pub noted_at_a_chance : OfEachMsgq NotedAtAChance
@@ -152,14 +168,22 @@ put-notes : (waiting : List (Waiter Unit)) (ws : Waits Unit MsgqReply) (reply : 
 put-notes [] ws Done none is = one-noted Noted ws.waiting ws.decided
 put-notes waiting ws reply none is = absurd (cc)
 
+chance-notes : (q : Msgq) (who : Who) (op : MsgqOp) (message : List ℕ) (reply : MsgqReply) → message_put op ≡ Some message →
+    msgq_reply q who op ≡ Some reply → q.gets.waiting ≡ [] → reply ≡ Done → NotesOne q.pollers (msgq_next q who op).pollers
+chance-notes q who (ops.Put put waits) message reply puts told none done =
+    subst (NotesOne q.pollers) (sym (poll-moves q who (ops.Put put waits) reply told))
+    (put-notes q.gets.waiting q.pollers reply none done)
+chance-notes q who (ops.PutFront put) message reply puts told none done =
+    subst (NotesOne q.pollers) (sym (poll-moves q who (ops.PutFront put) reply told))
+    (put-notes q.gets.waiting q.pollers reply none done)
+chance-notes q who op message reply puts told none done = absurd (cc)
+
 pub each_chance_notes_one : OfEachMsgq EachChanceNotesOne
 each_chance_notes_one most h legal front e at chance =
     let new = new_msgq most in
     let q = msgq_after_all new front in
-    let op : MsgqOp = ops.Put chance.put.0 chance.put.1 in
-    let after = ap (λ (r : Msgq). r.pollers) (state_after-snoc msgq_machine new front e ∙ ap (msgq_next q e.who) chance.put.2) in
-    let moves = poll-moves q e.who op e.reply (replied new h front e op legal.0 at chance.put.2) in
-    subst (NotesOne q.pollers) (sym (after ∙ moves)) (put-notes q.gets.waiting q.pollers e.reply chance.nobody chance.done)
+    subst (λ (r : Msgq). NotesOne q.pollers r.pollers) (sym (state_after-snoc msgq_machine new front e))
+    (chance-notes q e.who e.op chance.put.0 e.reply chance.put.1 (replied new h front e e.op legal.0 at refl) chance.nobody chance.done)
 
 polled-messages : (q : Msgq) (who : Who) (op : MsgqOp) → polls op ≡ true → (msgq_next q who op).messages ≡ q.messages
 polled-messages q who (ops.PollArm waits) is = refl

@@ -10,8 +10,8 @@ use Rattle.zk_model_wait.specs.MsgqLaws.{OfEachMsgq}
 use Rattle.zk_model_wait.specs.declared.msgq.MsgqOp.{MsgqOp}
 use Rattle.zk_model_wait.specs.declared.msgq.MsgqOp.TheVariants as ops
 use Rattle.zk_model_wait.specs.declared.msgq.MsgqReply.{MsgqReply}
-use Rattle.zk_model_wait.specs.declared.msgq.MsgqReply.TheVariants.{Done, Bytes}
-use Rattle.zk_model_wait.specs.Msgq.{Msgq, new_msgq, else_reply, put_reply, get_reply, msgq_reply, msgq_next, msgq_machine, put_at_full, appended, put_to, moved_in, get_from}
+use Rattle.zk_model_wait.specs.declared.msgq.MsgqReply.TheVariants.{Done, NoMsg, Bytes}
+use Rattle.zk_model_wait.specs.Msgq.{Msgq, new_msgq, else_reply, put_reply, get_reply, msgq_reply, msgq_next, msgq_machine, put_at_full, appended, put_to, prepended, put_front_to, moved_in, get_from}
 use Rattle.zk_model_wait.specs.MsgqWaits.{put_opens, get_opens, get_decides, take_decides, putters, getters}
 
 -- where nobody waits, the first is nobody
@@ -41,6 +41,13 @@ put-puts : (waiting : List (Waiter Unit)) (q : Msgq) (who : Who) (message : List
 put-puts (w ∷ ws) q who message waits = refl
 put-puts [] q who message waits = room-puts q who message waits (ltb (length q.messages) q.most)
 
+front-puts : (waiting : List (Waiter Unit)) (q : Msgq) (message : List ℕ) → (put_front_to waiting q message).puts ≡ q.puts
+front-puts (w ∷ ws) q message = refl
+front-puts [] q message = by (ltb (length q.messages) q.most) where
+  by : (room : Bool) → (cond room (prepended q message) q).puts ≡ q.puts
+  by true = refl
+  by false = refl
+
 moved-puts : (waiting : List (Waiter (List ℕ))) (q : Msgq) → q.puts.waiting ≡ waiting →
     (moved_in waiting q).puts ≡ after_decision (first Done) q.puts
 moved-puts [] q none = first-none Done q.puts none
@@ -59,6 +66,7 @@ put-moves q who (ops.Put message waits) reply is =
     subst (λ (r : MsgqReply). (put_to q.gets.waiting q who message waits).puts ≡ after_entry q.puts q.entries who nobody
     (put_opens (ops.Put message waits) r) None None)
     (same_Some (put_reply q.gets.waiting q waits) reply is) (put-puts q.gets.waiting q who message waits)
+put-moves q who (ops.PutFront message) reply is = front-puts q.gets.waiting q message
 put-moves q who (ops.PutEnd place) reply is = refl
 put-moves q who (ops.PutQuit place) reply is = refl
 put-moves q who (ops.Get waits) reply is = get-puts q.messages q who waits
@@ -91,6 +99,17 @@ put-gets : (waiting : List (Waiter Unit)) (q : Msgq) (who : Who) (message : List
 put-gets (w ∷ ws) q who message waits some = refl
 put-gets [] q who message waits none = room-gets q who message waits (ltb (length q.messages) q.most) none
 
+front-gets : (waiting : List (Waiter Unit)) (q : Msgq) (message : List ℕ) → q.gets.waiting ≡ waiting →
+    (put_front_to waiting q message).gets
+    ≡ after_decision (take_decides q (ops.PutFront message) (put_reply waiting q false)) q.gets
+front-gets (w ∷ ws) q message some = refl
+front-gets [] q message none = by (ltb (length q.messages) q.most) where
+  by : (room : Bool) →
+      (cond room (prepended q message) q).gets
+      ≡ after_decision (take_decides q (ops.PutFront message) (cond room Done NoMsg)) q.gets
+  by true = first-none (Bytes message) q.gets none
+  by false = refl
+
 moved-gets : (waiting : List (Waiter (List ℕ))) (q : Msgq) → (moved_in waiting q).gets ≡ q.gets
 moved-gets [] q = refl
 moved-gets (w ∷ ws) q = refl
@@ -109,6 +128,10 @@ get-moves q who (ops.Put message waits) reply is =
     subst (λ (r : MsgqReply). (put_to q.gets.waiting q who message waits).gets
     ≡ after_decision (take_decides q (ops.Put message waits) r) q.gets)
     (same_Some (put_reply q.gets.waiting q waits) reply is) (put-gets q.gets.waiting q who message waits refl)
+get-moves q who (ops.PutFront message) reply is =
+    subst (λ (r : MsgqReply). (put_front_to q.gets.waiting q message).gets
+    ≡ after_decision (take_decides q (ops.PutFront message) r) q.gets)
+    (same_Some (put_reply q.gets.waiting q false) reply is) (front-gets q.gets.waiting q message refl)
 get-moves q who (ops.PutEnd place) reply is = refl
 get-moves q who (ops.PutQuit place) reply is = refl
 get-moves q who (ops.Get waits) reply is =

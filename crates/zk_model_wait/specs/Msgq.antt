@@ -11,7 +11,7 @@ use Rattle.zk_model_wait.specs.declared.msgq.MsgqReply.{MsgqReply}
 use Rattle.zk_model_wait.specs.declared.msgq.MsgqReply.TheVariants.{Done, NoMsg, Wait, Again, Bytes, Number, Ready, NotReady, Armed, Noted, Plain}
 
 -- the state of a message queue: the most messages that it holds, the number of entries so far,
--- its messages, the oldest first, who waits to put one and to get one, and who is registered to be notified when there is one:
+-- its messages, the one that is got next first, who waits to put one and to get one, and who is registered to be notified when there is one:
 -- who is notified is decided with that
 pub record Msgq : Type 0 where
   pub most : ℕ
@@ -58,12 +58,12 @@ abbrev pub put_reply : List (Waiter Unit) → Msgq → Bool → MsgqReply
 put_reply (w ∷ ws) q waits = Done
 put_reply [] q waits = if nat_lt (length q.messages) q.most then Done else else_reply waits
 
--- what a get is answered: the oldest message
+-- what a get is answered: the first message
 abbrev pub get_reply : List (List ℕ) → Bool → MsgqReply
 get_reply (m ∷ ms) waits = Bytes m
 get_reply [] waits = else_reply waits
 
--- the message at an index, the oldest at 0
+-- the message at an index, the first at 0
 abbrev pub peek_reply : Msgq → ℕ → MsgqReply
 peek_reply q index = option_map_or Bytes (slice_get q.messages index) NoMsg
 
@@ -76,6 +76,7 @@ poll_reply [] false = NotReady
 -- the reply to each operation, where it is possible
 abbrev pub msgq_reply : Msgq → Who → MsgqOp → Option MsgqReply
 msgq_reply q who (ops.Put message waits) = Some (put_reply q.gets.waiting q waits)
+msgq_reply q who (ops.PutFront message) = Some (put_reply q.gets.waiting q false)
 msgq_reply q who (ops.PutEnd place) = decision_of q.puts who.number place
 msgq_reply q who (ops.PutQuit place) = quit_answer Again q.puts who.number place
 msgq_reply q who (ops.Get waits) = Some (get_reply q.messages waits)
@@ -115,12 +116,21 @@ put_to [] q who message waits =
     if nat_lt (length q.messages) q.most then appended q message
     else put_at_full q who message waits
 
+-- a message goes before the others, and a poller is notified
+abbrev pub prepended : Msgq → List ℕ → Msgq
+prepended q message = record q { messages = message ∷ q.messages; pollers = first_decided Noted q.pollers }
+
+-- a put in front hands its message to the first get that waits. Where none does it goes before the others, if there is room
+abbrev pub put_front_to : List (Waiter Unit) → Msgq → List ℕ → Msgq
+put_front_to (w ∷ ws) q message = record q { gets = first_decided (Bytes message) q.gets }
+put_front_to [] q message = if nat_lt (length q.messages) q.most then prepended q message else q
+
 -- the message of the first put that waits moves in, and that put is done
 abbrev pub moved_in : List (Waiter (List ℕ)) → Msgq → Msgq
 moved_in [] q = q
 moved_in (w ∷ ws) q = record q { messages = q.messages ++ w.payload ∷ []; puts = first_decided Done q.puts }
 
--- a get takes the oldest message, and one that waits moves in. Where there is none it waits, if it is to wait
+-- a get takes the first message, and one that waits moves in. Where there is none it waits, if it is to wait
 abbrev pub get_from : List (List ℕ) → Msgq → Who → Bool → Msgq
 get_from (m ∷ ms) q who waits = moved_in q.puts.waiting (record q { messages = ms })
 get_from [] q who true = awaits_message q who
@@ -135,6 +145,7 @@ arm_at [] q who false = q.pollers
 -- what each operation changes, where it is possible
 abbrev pub msgq_changed : Msgq → Who → MsgqOp → Msgq
 msgq_changed q who (ops.Put message waits) = put_to q.gets.waiting q who message waits
+msgq_changed q who (ops.PutFront message) = put_front_to q.gets.waiting q message
 msgq_changed q who (ops.PutEnd place) = record q { puts = ended q.puts who.number place }
 msgq_changed q who (ops.PutQuit place) = record q { puts = quitted q.puts who.number place }
 msgq_changed q who (ops.Get waits) = get_from q.messages q who waits

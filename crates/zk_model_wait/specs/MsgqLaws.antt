@@ -1,5 +1,6 @@
-use Rattle.std.specs.Prelude.{◌≡◌, ℕ, ◌-◌, ◌<◌, ◌≤◌, Bool, true, false, ◌==◌, ◌&&◌, ◌⊎◌, if◌then◌else◌, Some, List, [], ◌∷◌, ◌++◌, length, slice_get}
+use Rattle.std.specs.Prelude.{◌≡◌, ℕ, ◌-◌, ◌<◌, ◌≤◌, Bool, true, false, ◌==◌, ◌&&◌, ◌||◌, ◌⊎◌, if◌then◌else◌, Option, Some, None, List, [], ◌∷◌, ◌++◌, length, count_by, slice_get}
 use Rattle.std.specs.List.{list_any}
+use Rattle.std.specs.Str.{bytes_eq}
 use Rattle.zk_base.specs.declared.ids.Who.{Who}
 use Rattle.zk_base.specs.declared.ids.Entry.{Entry}
 use Rattle.zk_base.specs.declared.waits.Waiter.{Waiter}
@@ -47,9 +48,10 @@ abbrev pub moved_by : Waits (List ℕ) MsgqReply → List (Waiter (List ℕ)) �
 moved_by after [] = []
 moved_by after (w ∷ ws) = (if is_done_at w.place after then w.payload ∷ [] else []) ++ moved_by after ws
 
--- the messages that an entry accepts: that of a put that is done, and those of the waiting puts that a get lets be done
+-- the messages that an entry accepts: that of a put that is done, in front or not, and those of the waiting puts that a get lets be done
 abbrev pub accepted : Msgq → Msgq → MsgqOp → MsgqReply → List (List ℕ)
 accepted before after (ops.Put message waits) Done = message ∷ []
+accepted before after (ops.PutFront message) Done = message ∷ []
 accepted before after (ops.Get waits) reply = moved_by after.puts before.puts.waiting
 accepted before after op reply = []
 
@@ -57,6 +59,7 @@ accepted before after op reply = []
 abbrev pub leaving : Msgq → Msgq → MsgqOp → MsgqReply → List (List ℕ)
 leaving before after (ops.Get waits) reply = message_of reply
 leaving before after (ops.Put message waits) reply = handed_by message_of before.gets after.gets.decided
+leaving before after (ops.PutFront message) reply = handed_by message_of before.gets after.gets.decided
 leaving before after ops.Purge reply = before.messages
 leaving before after op reply = []
 
@@ -72,6 +75,26 @@ all_leaving q [] = []
 all_leaving q (e ∷ es) =
     leaving q (msgq_next q e.who e.op) e.op e.reply ++ all_leaving (msgq_next q e.who e.op) es
 
+-- the entry puts a message in front of those that are there: it is a put in front that is done where no get waits
+abbrev pub goes_in_front : Msgq → MsgqOp → MsgqReply → Bool
+goes_in_front before (ops.PutFront message) reply = is_done reply && length before.gets.waiting == 0
+goes_in_front before op reply = false
+
+-- some entry of a history does
+abbrev pub some_in_front : Msgq → MsgqHistory → Bool
+some_in_front q [] = false
+some_in_front q (e ∷ es) = goes_in_front q e.op e.reply || some_in_front (msgq_next q e.who e.op) es
+
+-- the message that an operation puts, in front or not
+abbrev pub message_put : MsgqOp → Option (List ℕ)
+message_put (ops.Put message waits) = Some message
+message_put (ops.PutFront message) = Some message
+message_put op = None
+
+-- how often a message stands in a list
+abbrev pub times : List ℕ → List (List ℕ) → ℕ
+times message messages = count_by (bytes_eq message) messages
+
 -- what a put is told: it is done where a get waits or there is room
 pub record PutIsTold (most : ℕ) (q : Msgq) (waits : Bool) (reply : MsgqReply) : Type 0 where
   pub handed : (q.gets.waiting ≡ [] → ⊥) → reply ≡ Done
@@ -79,7 +102,7 @@ pub record PutIsTold (most : ℕ) (q : Msgq) (waits : Bool) (reply : MsgqReply) 
   pub wait : q.gets.waiting ≡ [] → most ≤ length q.messages → waits ≡ true → reply ≡ Wait
   pub full : q.gets.waiting ≡ [] → most ≤ length q.messages → waits ≡ false → reply ≡ NoMsg
 
--- what a get is told: the oldest message
+-- what a get is told: the first message
 pub record GetIsTold (q : Msgq) (waits : Bool) (reply : MsgqReply) : Type 0 where
   pub got : (m : List ℕ) (ms : List (List ℕ)) → q.messages ≡ m ∷ ms → reply ≡ Bytes m
   pub wait : q.messages ≡ [] → waits ≡ true → reply ≡ Wait
@@ -96,9 +119,9 @@ pub record PollIsTold (messages : List (List ℕ)) (waits : Bool) (reply : MsgqR
   pub armed : messages ≡ [] → waits ≡ true → reply ≡ Armed
   pub not_ready : messages ≡ [] → waits ≡ false → reply ≡ NotReady
 
--- the entry is a chance for who polls: a put that is done where no get waits
+-- the entry is a chance for who polls: a put, in front or not, that is done where no get waits
 pub record IsChance (q : Msgq) (e : Entry MsgqOp MsgqReply) : Type 0 where
-  pub put : (message : List ℕ) × (waits : Bool) × (e.op ≡ ops.Put message waits)
+  pub put : (message : List ℕ) × (message_put e.op ≡ Some message)
   pub done : e.reply ≡ Done
   pub nobody : q.gets.waiting ≡ []
 
@@ -111,11 +134,25 @@ polls _ = false
 
 -- Each of what follows is said of one history, from its first state on.
 
--- first in, first out: what is there and then is accepted is what leaves and then is there, in the same order
+-- first in, first out, as long as none goes in front: what is there and then is accepted is what leaves and then is there,
+-- in the same order
 abbrev pub FirstInFirstOut : Msgq → MsgqHistory → Type 0
-FirstInFirstOut q h = (front part : MsgqHistory) → h ≡ front ++ part →
+FirstInFirstOut q h = (front part : MsgqHistory) → h ≡ front ++ part → some_in_front (msgq_after_all q front) part ≡ false →
     (msgq_after_all q front).messages ++ all_accepted (msgq_after_all q front) part
     ≡ all_leaving (msgq_after_all q front) part ++ (msgq_after_all q h).messages
+
+-- a message that goes in front is the first one then, and the others stay behind it as they were
+abbrev pub PutFrontGoesFirst : Msgq → MsgqHistory → Type 0
+PutFrontGoesFirst q h = (front : MsgqHistory) (e : Entry MsgqOp MsgqReply) (message : List ℕ) → IsEntry h front e →
+    e.op ≡ ops.PutFront message → goes_in_front (msgq_after_all q front) e.op e.reply ≡ true →
+    (msgq_after_all q (front ++ e ∷ [])).messages ≡ message ∷ (msgq_after_all q front).messages
+
+-- nothing is lost and nothing comes from nowhere, wherever it goes in: each message is as often among those that are there
+-- and are then accepted as among those that leave and are there then
+abbrev pub NothingIsLost : Msgq → MsgqHistory → Type 0
+NothingIsLost q h = (front part : MsgqHistory) (message : List ℕ) → h ≡ front ++ part →
+    times message ((msgq_after_all q front).messages ++ all_accepted (msgq_after_all q front) part)
+    ≡ times message (all_leaving (msgq_after_all q front) part ++ (msgq_after_all q h).messages)
 
 -- there are never more messages than the queue holds
 abbrev pub RingWithinMax : Msgq → MsgqHistory → Type 0
@@ -136,7 +173,12 @@ abbrev pub PutWaitsOnlyAtFull : Msgq → MsgqHistory → Type 0
 PutWaitsOnlyAtFull q h = (front : MsgqHistory) (e : Entry MsgqOp MsgqReply) (message : List ℕ) (waits : Bool) →
     IsEntry h front e → e.op ≡ ops.Put message waits → PutIsTold q.most (msgq_after_all q front) waits e.reply
 
--- a get is answered the oldest message. Where there is none it waits, or is told so
+-- a put in front is told what a put is that doesn't wait
+abbrev pub PutFrontIsTold : Msgq → MsgqHistory → Type 0
+PutFrontIsTold q h = (front : MsgqHistory) (e : Entry MsgqOp MsgqReply) (message : List ℕ) →
+    IsEntry h front e → e.op ≡ ops.PutFront message → PutIsTold q.most (msgq_after_all q front) false e.reply
+
+-- a get is answered the first message. Where there is none it waits, or is told so
 abbrev pub GetWaitsOnlyAtEmpty : Msgq → MsgqHistory → Type 0
 GetWaitsOnlyAtEmpty q h = (front : MsgqHistory) (e : Entry MsgqOp MsgqReply) (waits : Bool) → IsEntry h front e →
     e.op ≡ ops.Get waits → GetIsTold (msgq_after_all q front) waits e.reply
@@ -147,11 +189,11 @@ PutDecidedByGetOrPurge q h = (front : MsgqHistory) (e : Entry MsgqOp MsgqReply) 
     IsDecidedBy msgq_machine putters q front e d →
     ((waits : Bool) × (e.op ≡ ops.Get waits) × (d.answer ≡ Done)) ⊎ ((e.op ≡ ops.Purge) × (d.answer ≡ NoMsg))
 
--- an entry that decides the wait of a get is a put that is done, and the get is answered its message
+-- an entry that decides the wait of a get is a put that is done, in front or not, and the get is answered its message
 abbrev pub GetDecidedByItsPut : Msgq → MsgqHistory → Type 0
 GetDecidedByItsPut q h = (front : MsgqHistory) (e : Entry MsgqOp MsgqReply) (d : Decision MsgqReply) → IsEntry h front e →
     IsDecidedBy msgq_machine getters q front e d →
-    (message : List ℕ) × (waits : Bool) × (e.op ≡ ops.Put message waits) × (e.reply ≡ Done) × (d.answer ≡ Bytes message)
+    (message : List ℕ) × (message_put e.op ≡ Some message) × (e.reply ≡ Done) × (d.answer ≡ Bytes message)
 
 -- what is told of the messages is so
 pub record LooksTellTheRing (q : Msgq) (h : MsgqHistory) : Type 0 where
@@ -213,10 +255,13 @@ PollingTakesNothing q h = (front : MsgqHistory) (e : Entry MsgqOp MsgqReply) →
 -- the laws of a message queue
 pub record KeepsMsgqLaws (q : Msgq) (h : MsgqHistory) : Type 0 where
   pub in_order : FirstInFirstOut q h
+  pub in_front : PutFrontGoesFirst q h
+  pub lost : NothingIsLost q h
   pub within : RingWithinMax q h
   pub gets : NoneWaitsToGetWhileMessages q h
   pub puts : NoneWaitsToPutWhileRoom q h
   pub put : PutWaitsOnlyAtFull q h
+  pub put_front : PutFrontIsTold q h
   pub get : GetWaitsOnlyAtEmpty q h
   pub looks : LooksTellTheRing q h
   pub purge : PurgeEndsEveryPut q h

@@ -59,9 +59,10 @@ abbrev pub get_quits : MsgqOp → Option ℕ
 get_quits (ops.GetQuit place) = Some place
 get_quits op = None
 
--- a put decides the first get that waits: it gets the message
+-- a put decides the first get that waits, and so does a put in front: it gets the message
 abbrev pub take_decides : Msgq → MsgqOp → MsgqReply → Decides MsgqReply
 take_decides q (ops.Put message waits) Done = first (Bytes message)
+take_decides q (ops.PutFront message) Done = first (Bytes message)
 take_decides q op reply = nobody
 
 -- who waits to get a message
@@ -91,13 +92,14 @@ abbrev pub poll_quits : MsgqOp → Option ℕ
 poll_quits (ops.PollQuit place) = Some place
 poll_quits op = None
 
--- a put that is done notifies the first who polls, where no get waits
+-- a put that is done, in front or not, notifies the first who polls, where no get waits
 abbrev pub put_notifies : List (Waiter Unit) → MsgqReply → Decides MsgqReply
 put_notifies [] Done = first Noted
 put_notifies waiting reply = nobody
 
 abbrev pub poll_decides : Msgq → MsgqOp → MsgqReply → Decides MsgqReply
 poll_decides q (ops.Put message waits) reply = put_notifies q.gets.waiting reply
+poll_decides q (ops.PutFront message) reply = put_notifies q.gets.waiting reply
 poll_decides q op reply = nobody
 
 -- who polls a message queue: who is notified is decided

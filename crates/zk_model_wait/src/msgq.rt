@@ -15,19 +15,21 @@ use zk_base::{Msg, NoMemory, Store, WaitList, Waiter, Who};
 pub enum MsgqOp {
     /// Puts a message in. Where the queue is full the caller waits, if this is true. Zephyr's `k_msgq_put`.
     Put(Msg, bool),
+    /// Puts a message in before the first one, so that it is got next. The caller never waits. Zephyr's `k_msgq_put_front`.
+    PutFront(Msg),
     /// Ends a put of the caller that waited and is decided: the one that the entry of this place began.
     PutEnd(u64),
     /// Gives a put of the caller up, decided or not: the one that the entry of this place began.
     PutQuit(u64),
-    /// Takes the oldest message. Where there is none the caller waits, if this is true. Zephyr's `k_msgq_get`.
+    /// Takes the first message. Where there is none the caller waits, if this is true. Zephyr's `k_msgq_get`.
     Get(bool),
     /// Ends a get of the caller that waited and is decided: the one that the entry of this place began.
     GetEnd(u64),
     /// Gives a get of the caller up, decided or not: the one that the entry of this place began.
     GetQuit(u64),
-    /// Reads the oldest message, which stays. Zephyr's `k_msgq_peek`.
+    /// Reads the first message, which stays. Zephyr's `k_msgq_peek`.
     Peek,
-    /// Reads the message of this index, from 0 for the oldest, which stays. Zephyr's `k_msgq_peek_at`.
+    /// Reads the message of this index, from 0 for the first, which stays. Zephyr's `k_msgq_peek_at`.
     PeekAt(u32),
     /// Discards all messages, and ends all puts that wait. Zephyr's `k_msgq_purge`.
     Purge,
@@ -75,7 +77,7 @@ pub enum MsgqReply {
 #[derive(Drop)]
 pub struct MsgqStore {
     entries: u64,
-    // The oldest message at the front. It has its room from the start.
+    // The message that is got next at the front. It has its room from the start.
     ring: HeapCircularBuffer<Msg>,
     puts: WaitList<Msg, MsgqReply>,
     gets: WaitList<(), MsgqReply>,
@@ -198,6 +200,24 @@ impl MsgqStore {
         }
         self.entries += 1;
         Ok(Some(reply))
+    }
+
+    fn put_front(&mut self, who: Who, message: Msg) -> MsgqReply
+        requires { self.old.msgq.entries < most_entries }
+        ensures reply { Some result ≡ msgq_reply self.old.msgq who (MsgqOp.PutFront message) }
+        ensures next { self.new.msgq ≡ msgq_after self.old.msgq who (MsgqOp.PutFront message) (Some result) }
+        ensures room { self.old.room ≤ self.new.room }
+    {
+        let mut reply = MsgqReply::Done;
+        if self.gets.first().is_some() {
+            self.gets.decide_first(MsgqReply::Bytes(message));
+        } else if self.ring.try_push_front(message).is_ok() {
+            self.pollers.decide_first(MsgqReply::Noted);
+        } else {
+            reply = MsgqReply::NoMsg;
+        }
+        self.entries += 1;
+        reply
     }
 
     fn put_end(&mut self, who: Who, place: u64) -> Option<MsgqReply>
@@ -401,6 +421,7 @@ pub fn msgq_next(
 {
     match *op {
         MsgqOp::Put(message, waits) => store.put(who, message, waits),
+        MsgqOp::PutFront(message) => Ok(Some(store.put_front(who, message))),
         MsgqOp::PutEnd(place) => Ok(store.put_end(who, place)),
         MsgqOp::PutQuit(place) => Ok(store.put_quit(who, place)),
         MsgqOp::Get(waits) => store.get(who, waits),

@@ -1,12 +1,14 @@
 ghost use Rattle.zk_base.specs.WaitLaws.{KeepsWaits};
 ghost use Rattle.zk_model_wait.specs.Msgq.{Msgq, msgq_machine};
 ghost use Rattle.zk_model_wait.specs.MsgqWaits.{putters, getters, pollers};
-ghost use Rattle.zk_model_wait.specs.MsgqLaws.{MsgqHistory, OfEachMsgq, FirstInFirstOut, RingWithinMax, NoneWaitsToGetWhileMessages, NoneWaitsToPutWhileRoom, PutWaitsOnlyAtFull, GetWaitsOnlyAtEmpty, LooksTellTheRing, PurgeEndsEveryPut, PutDecidedByGetOrPurge, GetDecidedByItsPut, MayAlways, PurgeIsDone, PollArmAnswers, NotedAtAChance, EachChanceNotesOne, PollingTakesNothing, KeepsMsgqLaws};
+ghost use Rattle.zk_model_wait.specs.MsgqLaws.{MsgqHistory, OfEachMsgq, FirstInFirstOut, PutFrontGoesFirst, NothingIsLost, RingWithinMax, NoneWaitsToGetWhileMessages, NoneWaitsToPutWhileRoom, PutWaitsOnlyAtFull, PutFrontIsTold, GetWaitsOnlyAtEmpty, LooksTellTheRing, PurgeEndsEveryPut, PutDecidedByGetOrPurge, GetDecidedByItsPut, MayAlways, PurgeIsDone, PollArmAnswers, NotedAtAChance, EachChanceNotesOne, PollingTakesNothing, KeepsMsgqLaws};
 
-/// Of every legal history of a message queue: each message that it accepted leaves it once, in the order in which
-/// they were accepted, be it got, handed to a get or discarded.
+/// Of every legal history of a message queue: each message that it accepted leaves it once, be it got, handed to a get or
+/// discarded, and in the order in which they were accepted as long as none goes in front. One that goes in front is the first.
 pub fn first_in_first_out()
     ensures in_order { OfEachMsgq FirstInFirstOut }
+    ensures in_front { OfEachMsgq PutFrontGoesFirst }
+    ensures lost { OfEachMsgq NothingIsLost }
 {}
 
 /// Of every legal history of a message queue: it never holds too many messages, and nobody waits for what is there.
@@ -20,6 +22,7 @@ pub fn ring_holds()
 /// which operations are possible at any time.
 pub fn queue_calls_are_told()
     ensures put { OfEachMsgq PutWaitsOnlyAtFull }
+    ensures put_front { OfEachMsgq PutFrontIsTold }
     ensures get { OfEachMsgq GetWaitsOnlyAtEmpty }
     ensures looks { OfEachMsgq LooksTellTheRing }
     ensures purge { (q : Msgq) (h : MsgqHistory) → PurgeEndsEveryPut q h }
@@ -36,8 +39,8 @@ pub fn queue_waits_end()
     ensures get_waits { OfEachMsgq (KeepsWaits msgq_machine getters) }
 {}
 
-/// Of every legal history of a message queue: a poll is told whether there is a message, each put behind the others
-/// notifies one who polls and isn't notified yet, by priority, and then by longest poll, and nothing else does; and
+/// Of every legal history of a message queue: a poll is told whether there is a message, each put that is done where
+/// no get waits notifies one who polls and isn't notified yet, by priority, and then by longest poll, and nothing else does; and
 /// polling takes nothing.
 pub fn queue_polls_hold()
     ensures armed { OfEachMsgq PollArmAnswers }

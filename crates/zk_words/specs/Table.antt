@@ -62,7 +62,7 @@ delay = Number 0 MOST_TICKS
 abbrev pub ticks : Slot
 ticks = Number 1 MOST_TICKS
 
--- a place in a message queue, the oldest message's first
+-- a place in a message queue, the first message's first
 abbrev pub index : Slot
 index = Number 0 (most_held - 1)
 
@@ -134,6 +134,7 @@ call_row word.Give = exactly (codes "give") (sem ∷ [])
 call_row word.Reset = exactly (codes "reset") (sem ∷ [])
 call_row word.Count = exactly (codes "count") (sem ∷ [])
 call_row word.Put = exactly (codes "put") (msgq ∷ Hex ∷ Wait ∷ [])
+call_row word.PutFront = exactly (codes "putfront") (msgq ∷ Hex ∷ [])
 call_row word.Get = exactly (codes "get") (msgq ∷ Wait ∷ [])
 call_row word.Peek = exactly (codes "peek") (msgq ∷ [])
 call_row word.PeekAt = exactly (codes "peekat") (msgq ∷ index ∷ [])
@@ -177,7 +178,7 @@ heads =
     ∷ Call word.Schedule ∷ Call word.Reschedule ∷ Call word.Remaining ∷ Call word.Busy
     ∷ Call word.Start ∷ Call word.Drain ∷ Call word.Unplug ∷ Call word.Stop ∷ Call word.Tick
     ∷ Call word.Take ∷ Call word.Give ∷ Call word.Reset ∷ Call word.Count
-    ∷ Call word.Put ∷ Call word.Get ∷ Call word.Peek ∷ Call word.PeekAt ∷ Call word.Purge ∷ Call word.Used ∷ Call word.Free
+    ∷ Call word.Put ∷ Call word.PutFront ∷ Call word.Get ∷ Call word.Peek ∷ Call word.PeekAt ∷ Call word.Purge ∷ Call word.Used ∷ Call word.Free
     ∷ Call word.Raise ∷ Call word.Clear ∷ Call word.Check ∷ Call word.Poll
     ∷ Call word.Claim ∷ Call word.Finish ∷ Call word.Publish ∷ Call word.Notify ∷ Call word.Read
     ∷ Call word.Mask ∷ Call word.Enable ∷ Call word.SubWait

@@ -68,6 +68,7 @@ fn head_by_p(first: &[u8]) -> Option<Head>
     first_of!(
         first;
         b"put" => Head::Call(Word::Put),
+        b"putfront" => Head::Call(Word::PutFront),
         b"poll" => Head::Call(Word::Poll),
         b"publish" => Head::Call(Word::Publish),
         b"peek" => Head::Call(Word::Peek),

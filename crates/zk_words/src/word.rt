@@ -21,6 +21,7 @@ pub enum Word {
     Reset,
     Count,
     Put,
+    PutFront,
     Get,
     Peek,
     PeekAt,

@@ -228,6 +228,8 @@ plan_of-fits decls (calls.Reset (Known sem)) fits = sem-declared decls sem true 
 plan_of-fits decls (calls.Count (Known sem)) fits = sem-declared decls sem true fits
 plan_of-fits decls (calls.Put (Known queue) message timeout) fits =
     msgq-declared decls queue (is_size (size_at decls queue) (length message) && (wait_fits timeout && true)) fits
+plan_of-fits decls (calls.PutFront (Known queue) message) fits =
+    msgq-declared decls queue (is_size (size_at decls queue) (length message) && true) fits
 plan_of-fits decls (calls.Get (Known queue) timeout) fits = msgq-declared decls queue (wait_fits timeout && true) fits
 plan_of-fits decls (calls.Peek (Known queue)) fits = msgq-declared decls queue true fits
 plan_of-fits decls (calls.PeekAt (Known queue) index) fits = msgq-declared decls queue (is_between 0 255 index && true) fits

@@ -57,6 +57,7 @@ plan_of decls (calls.Give sem) = One (steps.Sem (ref_object sem) sem_ops.Give)
 plan_of decls (calls.Reset sem) = One (steps.Sem (ref_object sem) sem_ops.Reset)
 plan_of decls (calls.Count sem) = One (steps.Sem (ref_object sem) sem_ops.Count)
 plan_of decls (calls.Put queue message timeout) = Wait (Put (ref_object queue) message) timeout
+plan_of decls (calls.PutFront queue message) = One (steps.Msgq (ref_object queue) (msgq_ops.PutFront message))
 plan_of decls (calls.Get queue timeout) = Wait (Get (ref_object queue)) timeout
 plan_of decls (calls.Peek queue) = One (steps.Msgq (ref_object queue) msgq_ops.Peek)
 plan_of decls (calls.PeekAt queue index) =

@@ -378,6 +378,13 @@ pub fn call_ahead(
         Call::Put(queue, message, timeout) => put_message(
             *queue, message, *timeout, stage, index, ahead,
         ),
+        Call::PutFront(queue, message) => at_msgq(
+            *queue,
+            MsgqOp::PutFront(*message),
+            stage,
+            index,
+            ahead,
+        ),
         Call::Get(queue, timeout) => get(*queue, *timeout, stage, index, ahead),
         Call::Peek(queue) => at_msgq(*queue, MsgqOp::Peek, stage, index, ahead),
         Call::PeekAt(queue, place) => at_msgq(*queue, MsgqOp::PeekAt(*place), stage, index, ahead),
@@ -507,6 +514,7 @@ pub fn call_goes_on(
         Call::Start(_) => answer_by(Word::Start, reply, step, stage, answers),
         Call::Unplug(_) => answer_by(Word::Unplug, reply, step, stage, answers),
         Call::Stop(_) => answer_by(Word::Stop, reply, step, stage, answers),
+        Call::PutFront(_, _) => answer_by(Word::PutFront, reply, step, stage, answers),
         Call::Give(_) => answer_by(Word::Give, reply, step, stage, answers),
         Call::Reset(_) => answer_by(Word::Reset, reply, step, stage, answers),
         Call::Count(_) => answer_by(Word::Count, reply, step, stage, answers),

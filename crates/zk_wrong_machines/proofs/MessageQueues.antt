@@ -94,3 +94,54 @@ kept-refused looks =
     let is : ◌≡◌ {A = MsgqReply} (Number 1) (Number 0) =
     looks.used front (entry one 2 ops.Used (Number 1)) (record { rest = []; whole = refl }) refl in
     cc is
+
+-- a put in front that goes behind the messages that are there
+abbrev pub next_going_behind : Msgq → Who → MsgqOp → Msgq
+next_going_behind q who (ops.PutFront message) = msgq_next q who (ops.Put message false)
+next_going_behind q who op = msgq_next q who op
+
+abbrev pub put_in_front_goes_behind : Machine Msgq MsgqOp MsgqReply
+put_in_front_goes_behind = record msgq_machine { next = next_going_behind }
+
+abbrev pub behind : MsgqHistory
+behind =
+    entry one 0 (ops.Put (1 ∷ []) false) Done
+    ∷ entry one 1 (ops.PutFront (2 ∷ [])) Done
+    ∷ entry other 0 (ops.Get false) (Bytes (1 ∷ []))
+    ∷ []
+
+pub behind-replays : Replays put_in_front_goes_behind (new_msgq 2) behind
+behind-replays = (refl, (refl, (refl, tt)))
+
+pub behind-refused : GetWaitsOnlyAtEmpty (new_msgq 2) behind → ⊥
+behind-refused gets =
+    let front = entry one 0 (ops.Put (1 ∷ []) false) Done ∷ entry one 1 (ops.PutFront (2 ∷ [])) Done ∷ [] in
+    let last = entry other 0 (ops.Get false) (Bytes (1 ∷ [])) in
+    let told = gets front last false (record { rest = []; whole = refl }) refl in
+    let is : ◌≡◌ {A = MsgqReply} (Bytes (1 ∷ [])) (Bytes (2 ∷ [])) = told.got (2 ∷ []) ((1 ∷ []) ∷ []) refl in
+    cc is
+
+-- a put in front that passes by a get that waits
+abbrev pub next_passing_by : Msgq → Who → MsgqOp → Msgq
+next_passing_by q who (ops.PutFront message) = record q { messages = message ∷ q.messages; entries = q.entries + 1 }
+next_passing_by q who op = msgq_next q who op
+
+abbrev pub put_in_front_passes_a_get_by : Machine Msgq MsgqOp MsgqReply
+put_in_front_passes_a_get_by = record msgq_machine { next = next_passing_by }
+
+abbrev pub passed_by : MsgqHistory
+passed_by =
+    entry one 0 (ops.Get true) Wait
+    ∷ entry other 0 (ops.PutFront (1 ∷ [])) Done
+    ∷ entry other 1 ops.Used (Number 1)
+    ∷ []
+
+pub passed_by-replays : Replays put_in_front_passes_a_get_by (new_msgq 1) passed_by
+passed_by-replays = (refl, (refl, (refl, tt)))
+
+pub passed_by-refused : LooksTellTheRing (new_msgq 1) passed_by → ⊥
+passed_by-refused looks =
+    let front = entry one 0 (ops.Get true) Wait ∷ entry other 0 (ops.PutFront (1 ∷ [])) Done ∷ [] in
+    let is : ◌≡◌ {A = MsgqReply} (Number 1) (Number 0) =
+    looks.used front (entry other 1 ops.Used (Number 1)) (record { rest = []; whole = refl }) refl in
+    cc is

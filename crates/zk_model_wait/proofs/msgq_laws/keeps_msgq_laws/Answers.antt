@@ -4,10 +4,13 @@ use Rattle.zk_model_wait.proofs.msgq_laws.keeps_msgq_laws.Goals as goal
 pub returns : goal.returns
 returns c = λ most h legal. record {
   in_order = c.first_in_first_out.ensures.in_order most h legal;
+  in_front = c.first_in_first_out.ensures.in_front most h legal;
+  lost = c.first_in_first_out.ensures.lost most h legal;
   within = c.ring_holds.ensures.within most h legal;
   gets = c.ring_holds.ensures.gets most h legal;
   puts = c.ring_holds.ensures.puts most h legal;
   put = c.queue_calls_are_told.ensures.put most h legal;
+  put_front = c.queue_calls_are_told.ensures.put_front most h legal;
   get = c.queue_calls_are_told.ensures.get most h legal;
   looks = c.queue_calls_are_told.ensures.looks most h legal;
   purge = c.queue_calls_are_told.ensures.purge (new_msgq most) h;
