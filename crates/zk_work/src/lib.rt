@@ -3,6 +3,9 @@
 
 mod active;
 mod engine;
+mod flushed;
+mod open_waits;
+mod told;
 mod touched;
 mod waits;
 mod work;
