@@ -1,5 +1,4 @@
 pub mod Alarms
-mod ClockOwed
 pub mod MsgqOrder
 mod MsgqOwed
 pub mod MsgqPolls

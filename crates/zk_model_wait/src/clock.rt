@@ -6,7 +6,7 @@ ghost use Rattle.zk_model_wait.specs.Clock.{new_clock, is_alarm, has_alarm, is_d
 
 use std::alloc::Global;
 use std::marker::Model;
-use zk_base::{NoMemory, Store, Who};
+use zk_base::{NoMemory, Who};
 
 /// What can be asked of the clock. Time is counted in ticks, from 0.
 #[derive(Clone, Copy, Debug, PartialEq, Eq)]
@@ -142,14 +142,6 @@ impl ClockState {
             store: ClockStore::new(alloc),
         }
     }
-
-    /// The same state with its memory, as an engine keeps it.
-    pub fn into_store(self) -> ClockStore
-        ensures { result.clock ≡ self }
-    {
-        let ClockState { store } = self;
-        store
-    }
 }
 
 impl ClockStore {
@@ -234,56 +226,4 @@ pub fn clock_next(
         ClockOp::Alarm(ticks) => store.alarm(who, ticks),
         ClockOp::AlarmEnd(moment) => Ok(store.alarm_end(who, moment)),
     }
-}
-
-impl Store for ClockStore {
-    type Op = ClockOp;
-
-    type Reply = ClockReply;
-
-    type State = ClockState;
-
-    ghost use Rattle.zk_model_wait.specs.Clock.{clock_owed, clock_closes, clock_machine};
-
-    ghost state = { λ s. s.clock };
-
-    ghost room = { λ s. s.room };
-
-    ghost machine = { clock_machine };
-
-    ghost entries = { λ c. c.entries };
-
-    ghost owed = { clock_owed };
-
-    ghost closes = { λ c who op. clock_closes op };
-
-    fn next(&mut self, who: Who, op: &ClockOp) -> Result<Option<ClockReply>, NoMemory> {
-        clock_next(self, who, op)
-    }
-
-    fn is_closing(&self, _who: Who, op: &ClockOp) -> bool {
-        matches!(op, ClockOp::AlarmEnd(_))
-    }
-
-    fn is_futile(&self, _who: Who, op: &ClockOp) -> bool {
-        match op {
-            ClockOp::AlarmEnd(moment) => self.time < *moment,
-            _ => false,
-        }
-    }
-
-    fn owed(&self) -> u64 {
-        self.alarms.len() as u64
-    }
-
-    fn reserve(&mut self, more: usize) -> Result<(), NoMemory> {
-        self.alarms.reserve(more)?;
-        Ok(())
-    }
-
-    fn room(&self) -> u64 {
-        (self.alarms.capacity() - self.alarms.len()) as u64
-    }
-
-    fn counts_entries() {}
 }

@@ -1,5 +1,7 @@
+mod AlarmCounts
 mod Arming
 mod Arms
+mod ClockOwed
 mod Disarming
 mod Looks
 pub mod Orders

@@ -1,3 +1,4 @@
+pub mod Alarms
 pub mod ClockSeen
 pub mod Deltas
 pub mod Timeouts

@@ -2,15 +2,16 @@ ghost use Rattle.std.specs.Prelude.{◌≡◌, []};
 ghost use Rattle.zk_model_wait.specs.Clock.{new_clock};
 ghost use Rattle.zk_time.specs.ClockSeen.{clock_start, clock_history};
 
+use crate::clock_engine::ClockEngine;
 use std::alloc::Global;
 use std::snapshot::Snapshot;
-use zk_base::{Entry, NoMemory, PlainEngine, Recorded, Service, Who};
-use zk_model_wait::{ClockOp, ClockReply, ClockState, ClockStore};
+use zk_base::{Entry, NoMemory, Recorded, Service, Who};
+use zk_model_wait::{ClockOp, ClockReply, ClockState};
 
 /// The clock service: the time of a scenario, and who waits for which moment, with its history.
 #[derive(Drop)]
 pub struct Clock {
-    inner: Recorded<PlainEngine<ClockStore>>,
+    inner: Recorded<ClockEngine>,
 }
 
 impl Clock {
@@ -19,11 +20,9 @@ impl Clock {
         ensures start { clock_start result ≡ new_clock }
         ensures history { clock_history result ≡ [] }
     {
-        let state = ClockState::new(alloc);
-        let start = Snapshot::of(&state);
-        let engine = PlainEngine::new(state.into_store());
+        let start = Snapshot::of(&ClockState::new(alloc));
         Clock {
-            inner: Recorded::new(alloc, start, engine),
+            inner: Recorded::new(alloc, start, ClockEngine::new(alloc)),
         }
     }
 }

@@ -1,8 +1,10 @@
 //! The services of time: the clock with its alarms, and the timeouts of the items that are armed.
 #![tactic(auto)]
 
+mod alarms;
 mod arm;
 mod clock;
+mod clock_engine;
 mod deltas;
 mod timeout;
 mod timeout_list;

@@ -290,7 +290,7 @@ among-open item n (l ∷ lines) is = by (number_in item l) (among-open item n li
   by (Some m) rest some is =
       or_left (list_any (has_number n) l) (list_any (list_any (has_number n)) lines) (line-open item n l (some ∙ is))
 
-by-open : (o : Open) (item n : ℕ) → IsBy o item n → is_open o n ≡ true
+pub by-open : (o : Open) (item n : ℕ) → IsBy o item n → is_open o n ≡ true
 by-open o item n (inl waits) =
     or_right (list_any (runs_number n) o.runs) (list_any (list_any (has_number n)) o.lines) (among-open item n o.lines waits)
 by-open o item n (inr runs) =

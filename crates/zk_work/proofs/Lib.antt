@@ -13,12 +13,14 @@ mod Due
 mod Flushing
 mod Fresh
 mod Items
+mod Kept
 mod LastQueues
 mod Marked
 mod Numbered
 mod Numbers
 mod Others
 pub mod Owed
+mod Placed
 mod Replies
 mod Sound
 mod Steps

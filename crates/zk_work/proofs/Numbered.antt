@@ -1,26 +1,28 @@
 -- What is open was made, and each number is of one item.
-use Rattle.std.proofs.Common.{◌≡◌, ℕ, zero, suc, ◌+◌, ◌<◌, ◌⊎◌, inl, inr, false, eqb, Option, Some, None, is_some, option_to_list, List, [], ◌∷◌, ◌++◌, length, slice_get, refl, sym, ap, subst, ◌∙◌, arith}
-use Rattle.std.specs.Cmp.{first_so}
+use Rattle.std.proofs.Common.{◌≡◌, ℕ, zero, suc, ◌+◌, ◌<◌, ◌⊎◌, inl, inr, Bool, true, false, eqb, All, Option, Some, None, is_some, option_to_list, List, [], ◌∷◌, ◌++◌, length, slice_get, refl, sym, ap, subst, ◌∙◌, arith}
+use Rattle.std.specs.Cmp.{first_so, second_so}
+use Rattle.std.specs.List.{position}
 use Rattle.std.specs.Option.{option_map_or}
-use Rattle.std.proofs.lemmas.Bool.{cases_eq, eqb-true}
+use Rattle.std.proofs.lemmas.Bool.{cases_eq, eqb-true, eq-eqb, and_from, false≢true}
 use Rattle.std.proofs.lemmas.List.{get_or-set_same, get_or-set_other}
+use Rattle.std.proofs.lemmas.List.Elements.{All-weaker, All-push}
 use Rattle.std.proofs.lemmas.Option.{same_Some}
 use Rattle.zk_base.specs.declared.ids.Who.{Who}
 use Rattle.zk_model_work.specs.declared.parts.Admission.{Admission}
 use Rattle.zk_model_work.specs.Answers.{admitted_to}
 use Rattle.zk_model_work.specs.Lists.{first}
 use Rattle.zk_model_work.specs.Questions.{is_waiting, is_running, waits_as, runs_as, waits_for, runs_on}
-use Rattle.zk_model_work.proofs.Overlaps.{submission-admits, submission-within}
+use Rattle.zk_model_work.proofs.Overlaps.{submission-admits, submission-within, position-none}
 use Rattle.zk_time.specs.Timeouts.{queue_of}
 use Rattle.zk_queue.specs.declared.ticket.Ticket.{Ticket}
-use Rattle.zk_queue.specs.Open.{Open, line, run, waiting, is_queued, admit}
+use Rattle.zk_queue.specs.Open.{Open, line, run, running, waiting, is_queued, admit}
 use Rattle.zk_work.specs.EngineState.{EngineState, IsSound, IsBy, AreNumbered, IsWhole}
 use Rattle.zk_work.specs.Engine.{item_of, answer_of, admitted, submitted, disarmed, hurried}
 use Rattle.zk_work.specs.Tickets.{tickets}
-use Rattle.zk_work.proofs.Tickets.{first_stands}
-use Rattle.zk_work.proofs.Numbers.{is_at, waiting-same, running-same}
+use Rattle.zk_work.proofs.Tickets.{IsTicketOf, first_stands, all_stand}
+use Rattle.zk_work.proofs.Numbers.{is_at, one-place, one-run, waiting-same, running-same}
 use Rattle.zk_work.proofs.Beside.{submitted-same}
-use Rattle.zk_work.proofs.Others.{waiting-admit, waiting-admitted}
+use Rattle.zk_work.proofs.Others.{waiting-admit, waiting-admitted, waits-now}
 
 -- the admission of a number
 record IsItsOwn (xs : List Admission) (item number : ℕ) : Type 0 where
@@ -53,9 +55,54 @@ module _ (o : Open) (xs : List Admission) (known : ℕ) (found : List ℕ)
         its = eqb-true at.admission.item item (first_so (eqb at.admission.item item) (is_running at.admission.life) at.passes);
       }
 
+  none-there : (p : Admission → Bool) (n : ℕ) (a : Admission) → slice_get xs n ≡ Some a → p a ≡ true → position p xs ≡ None → ⊥
+  none-there p n a there passes none = false≢true (sym (position-none p xs n a none there) ∙ passes)
+
+  -- what waits and what runs is what its item waits and runs by
+  once : (queue : ℕ) → All (λ (t : Ticket). waiting o t.item ≡ Some t.number) (line o queue)
+  once queue = subst (All (λ (t : Ticket). waiting o t.item ≡ Some t.number)) (sym (lines queue))
+      (All-weaker (IsTicketOf 0 (waits_for queue) xs) (λ (t : Ticket). waiting o t.item ≡ Some t.number) found_by
+      (tickets (waits_for queue) xs) (all_stand 0 (waits_for queue) xs)) where
+        found_by : (t : Ticket) → IsTicketOf 0 (waits_for queue) xs t → waiting o t.item ≡ Some t.number
+        found_by t s = waiting-same o xs lines runs t.item (sound.once t.item) ∙ by (position (waits_as t.item) xs) refl where
+          passes : waits_as t.item s.admission ≡ true
+          passes = and_from (eqb s.admission.item t.item) (is_waiting s.admission.life) (eq-eqb s.admission.item t.item s.item)
+              (second_so (eqb s.admission.queue queue) (is_waiting s.admission.life) s.passes)
+
+          by : (p : Option ℕ) → position (waits_as t.item) xs ≡ p → position (waits_as t.item) xs ≡ Some t.number
+          by None is = absurd (none-there (waits_as t.item) s.place s.admission s.there passes is)
+          by (Some m) is =
+              let at = is_at (waits_as t.item) xs m is in
+              let number = s.number in
+              let same = one-place (waits_as t.item) xs m s.place at.admission s.admission (sound.once t.item) at.there s.there
+              at.passes passes in
+              let here : m ≡ t.number = omega arith in
+              is ∙ ap (λ (n : ℕ). Some n) here
+
+  one : (queue : ℕ) (t : Ticket) → run o queue ≡ Some t → running o t.item ≡ Some t.number
+  one queue t it = running-same o xs lines runs sound.home t.item ∙ by (position (runs_as t.item) xs) refl where
+    s : IsTicketOf 0 (runs_on queue) xs t
+    s = first_stands 0 (runs_on queue) xs t (ap first (sym (runs queue) ∙ ap option_to_list it))
+
+    passes : runs_as t.item s.admission ≡ true
+    passes = and_from (eqb s.admission.item t.item) (is_running s.admission.life) (eq-eqb s.admission.item t.item s.item)
+        (second_so (eqb s.admission.queue queue) (is_running s.admission.life) s.passes)
+
+    by : (p : Option ℕ) → position (runs_as t.item) xs ≡ p → position (runs_as t.item) xs ≡ Some t.number
+    by None is = absurd (none-there (runs_as t.item) s.place s.admission s.there passes is)
+    by (Some m) is =
+        let at = is_at (runs_as t.item) xs m is in
+        let number = s.number in
+        let same = one-run o xs lines runs sound.home t.item m s.place at.admission s.admission at.there s.there
+        at.passes passes in
+        let here : m ≡ t.number = omega arith in
+        is ∙ ap (λ (n : ℕ). Some n) here
+
   pub numbered_as : (next : ℕ) → next ≡ length xs → o.items ≡ known → AreNumbered next o
   numbered_as next made items =
       record {
+        once = once;
+        one = one;
         below = λ item number by.
             let it = own item number by in
             let within = get-within xs number it.admission it.there in
@@ -121,9 +168,35 @@ module _ (next : ℕ) (o : Open) (item queue : ℕ) (old : AreNumbered next o) (
         by (inl before) = old.within queue u before
         by (inr it) = subst (λ (u : Ticket). u.item < o.items) it item_in
 
+  abbrev after : Open
+  after = admit o item queue next
+
+  -- whatever waited goes on by its number
+  once-before : (q : ℕ) → All (λ (u : Ticket). waiting after u.item ≡ Some u.number) (line o q)
+  once-before q = All-weaker (λ (u : Ticket). waiting o u.item ≡ Some u.number)
+      (λ (u : Ticket). waiting after u.item ≡ Some u.number) keeps (line o q) (old.once q) where
+        keeps : (u : Ticket) → waiting o u.item ≡ Some u.number → waiting after u.item ≡ Some u.number
+        keeps u waits = by (cases_eq u.item item) where
+          by : (u.item ≡ item) ⊎ (u.item ≡ item → ⊥) → waiting after u.item ≡ Some u.number
+          by (inl same) = absurd (false≢true (ap is_some (sym (not-queued o item free) ∙ ap (waiting o) (sym same) ∙ waits)))
+          by (inr differ) = waiting-admit o u.item item queue next differ ∙ waits
+
+  once-after : (q : ℕ) → (q ≡ queue) ⊎ (q ≡ queue → ⊥) →
+      All (λ (u : Ticket). waiting after u.item ≡ Some u.number) (line after q)
+  once-after q (inr differ) = subst (All (λ (u : Ticket). waiting after u.item ≡ Some u.number))
+      (sym (get_or-set_other o.lines queue q (line o queue ++ t ∷ []) [] differ)) (once-before q)
+  once-after q (inl same) =
+      subst (λ q. All (λ (u : Ticket). waiting after u.item ≡ Some u.number) (line after q)) (sym same)
+      (subst (All (λ (u : Ticket). waiting after u.item ≡ Some u.number))
+      (sym (get_or-set_same o.lines queue (line o queue ++ t ∷ []) [] queue_in))
+      (All-push (λ (u : Ticket). waiting after u.item ≡ Some u.number) (line o queue) t (once-before queue)
+      (waits-now o item queue next (not-queued o item free) queue_in)))
+
   pub numbered-admit : AreNumbered (next + 1) (admit o item queue next)
   numbered-admit =
       record {
+        once = λ q. once-after q (cases_eq q queue);
+        one = old.one;
         below = λ i number by. below i number (came i number by);
         apart = λ i j number by also. apart i j number (came i number by) (came j number also);
         within = λ q u is. within q u (cases_eq q queue) is;

@@ -1,8 +1,8 @@
 -- What an operation on one item leaves of the others: the admission by which each waits, and that by which it runs.
-use Rattle.std.proofs.Common.{◌≡◌, ◌≢◌, ℕ, zero, suc, Bool, true, false, cond, ltb, Option, Some, None, option_map, option_and_then, List, [], ◌∷◌, ◌++◌, length, set, get_or, find, refl, sym, ap, ◌∙◌}
+use Rattle.std.proofs.Common.{◌≡◌, ◌≢◌, ℕ, zero, suc, ◌<◌, Bool, true, false, cond, ltb, Option, Some, None, option_map, option_and_then, List, [], ◌∷◌, ◌++◌, length, set, get_or, find, refl, sym, ap, ◌∙◌, arith}
 use Rattle.std.specs.List.{position, position_or_len}
 use Rattle.std.specs.Option.{option_or}
-use Rattle.std.proofs.lemmas.Bool.{false≢true}
+use Rattle.std.proofs.lemmas.Bool.{false≢true, eq-eqb}
 use Rattle.std.proofs.lemmas.List.{length-set, get_or-set_other}
 use Rattle.std.proofs.lemmas.List.Folds.{position_or_len-set}
 use Rattle.std.proofs.lemmas.List.Quantifiers.{position-Some}
@@ -94,3 +94,28 @@ pub waiting-admitted : (o : Open) (item queue number n : ℕ) → waiting o item
     waiting (admit o item queue number) item ≡ Some n → n ≡ number
 waiting-admitted o item queue number n none is =
     among-pushed item n o.lines queue (record { item = item; number = number }) none is
+
+-- which waits by its number
+number-now : (line : List Ticket) (t : Ticket) → number_in t.item line ≡ None → number_in t.item (line ++ t ∷ []) ≡ Some t.number
+number-now [] t none = ap (λ b. option_map (λ (t : Ticket). t.number) (cond b (Some t) None)) (eq-eqb t.item t.item refl)
+number-now (u ∷ line) t none = at (is_of t.item u) (number-now line t) none where
+  at : (b : Bool) → (number_in t.item line ≡ None → number_in t.item (line ++ t ∷ []) ≡ Some t.number) →
+      option_map (λ (t : Ticket). t.number) (cond b (Some u) (find (is_of t.item) line)) ≡ None →
+      option_map (λ (t : Ticket). t.number) (cond b (Some u) (find (is_of t.item) (line ++ t ∷ []))) ≡ Some t.number
+  at true rest none = absurd (cc)
+  at false rest none = rest none
+
+among-now : (lines : List (List Ticket)) (queue : ℕ) (t : Ticket) → number_among t.item lines ≡ None → queue < length lines →
+    number_among t.item (set lines queue (get_or lines queue [] ++ t ∷ [])) ≡ Some t.number
+among-now [] queue t none within = absurd (omega arith)
+among-now (line ∷ lines) zero t none within =
+    ap (λ (o : Option ℕ). option_or o (number_among t.item lines))
+    (number-now line t (or-none (number_in t.item line) (number_among t.item lines) none).0)
+among-now (line ∷ lines) (suc queue) t none within =
+    let parts = or-none (number_in t.item line) (number_among t.item lines) none in
+    ap (λ (o : Option ℕ). option_or o (number_among t.item (set lines queue (get_or lines queue [] ++ t ∷ [])))) parts.0
+    ∙ among-now lines queue t parts.1 (omega arith)
+
+pub waits-now : (o : Open) (item queue number : ℕ) → waiting o item ≡ None → queue < length o.lines →
+    waiting (admit o item queue number) item ≡ Some number
+waits-now o item queue number none within = among-now o.lines queue (record { item = item; number = number }) none within

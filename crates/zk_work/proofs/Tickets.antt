@@ -1,7 +1,8 @@
 -- The tickets of the admissions that pass, and what a change of the admissions makes of them.
-use Rattle.std.proofs.Common.{◌≡◌, ℕ, zero, suc, ◌+◌, ◌≤◌, Bool, true, false, cond, Some, option_map, List, [], ◌∷◌, ◌++◌, length, map, slice_get, count_by, refl, sym, ap, ◌∙◌, add-zero, arith}
+use Rattle.std.proofs.Common.{◌≡◌, ℕ, zero, suc, ◌+◌, ◌≤◌, Bool, true, false, cond, Some, option_map, List, [], ◌∷◌, ◌++◌, length, map, slice_get, count_by, All, refl, sym, ap, ◌∙◌, add-zero, arith}
 use Rattle.std.specs.List.{position}
 use Rattle.std.proofs.lemmas.Bool.{false≢true}
+use Rattle.std.proofs.lemmas.List.Elements.{All-nil, All-cons, All-weaker}
 use Rattle.std.proofs.lemmas.List.Sums.{sum_by-cons}
 use Rattle.std.proofs.lemmas.Option.{same_Some}
 use Rattle.zk_model_work.specs.declared.parts.Admission.{Admission}
@@ -74,6 +75,18 @@ first_stands n p (x ∷ xs) t is = by (p x) refl is (λ there. first_stands (n +
     passes = passes;
   }
   by false passes is further = stands-behind n p x xs t (further is)
+
+-- each ticket stands for an admission that passes
+pub all_stand : (n : ℕ) (p : Admission → Bool) (xs : List Admission) → All (IsTicketOf n p xs) (tickets_from n p xs)
+all_stand n p [] = All-nil (IsTicketOf n p [])
+all_stand n p (x ∷ xs) =
+    by (p x) refl (All-weaker (IsTicketOf (n + 1) p xs) (IsTicketOf n p (x ∷ xs)) (λ t s. stands-behind n p x xs t s)
+    (tickets_from (n + 1) p xs) (all_stand (n + 1) p xs)) where
+      by : (b : Bool) → p x ≡ b → All (IsTicketOf n p (x ∷ xs)) (tickets_from (n + 1) p xs) →
+          All (IsTicketOf n p (x ∷ xs)) (cond b (ticket x n ∷ tickets_from (n + 1) p xs) (tickets_from (n + 1) p xs))
+      by true passes rest = All-cons (IsTicketOf n p (x ∷ xs)) (ticket x n) (tickets_from (n + 1) p xs)
+          (record { place = 0; admission = x; there = refl; number = sym (add-zero n); item = refl; passes = passes }) rest
+      by false passes rest = rest
 
 -- one more admission at the end
 pub tickets-push : (n : ℕ) (p : Admission → Bool) (xs : List Admission) (a : Admission) →

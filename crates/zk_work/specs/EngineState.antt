@@ -104,6 +104,9 @@ pub record AreNumbered (next : ℕ) (o : Open) : Type 0 where
   pub below : (item number : ℕ) → IsBy o item number → number < next
   pub apart : (i j number : ℕ) → IsBy o i number → IsBy o j number → i ≡ j
   pub within : (queue : ℕ) (t : Ticket) → first (line o queue) ≡ Some t → t.item < o.items
+  -- an item waits once, and runs once
+  pub once : (queue : ℕ) → All (λ t. waiting o t.item ≡ Some t.number) (line o queue)
+  pub one : (queue : ℕ) (t : Ticket) → run o queue ≡ Some t → running o t.item ≡ Some t.number
 
 -- what holds of all that the engine keeps
 pub record IsWhole (k : EngineState) : Type 0 where

@@ -1,7 +1,9 @@
 pub mod Active
 pub mod Engine
 pub mod EngineState
+pub mod Flushed
 pub mod Flushing
+pub mod OpenWaits
 pub mod Seen
 pub mod Tickets
 pub mod Touched

@@ -11,7 +11,9 @@ ghost use Rattle.zk_work.specs.Words.{most_items, most_queues};
 ghost use Rattle.zk_work.specs.Engine.{item_of, answer_of, MayAdmit, admitted, submitted, disarmed, is_pending_in, delayed, delay_reply_in, hurried, expiry_of, expired_next, expired, told, announced, announce_reply, flags_of, may_close, closed, reply_of, after_reply, IsTimely};
 
 use crate::active::{Active, settle};
-use crate::copies::copy_of;
+use crate::flushed::{Flushed, no_flushed, note};
+use crate::open_waits::OpenWaits;
+use crate::told::{copy_of, tell};
 use crate::touched::tell_items;
 use crate::waits::{close, mark_flushing, may_close};
 use bitflags::Flags;
@@ -19,10 +21,10 @@ use std::alloc::Global;
 use std::marker::Model;
 use zk_base::{Engine, Listed, NoMemory, Who, push_within};
 use zk_model_work::{
-    BusyFlags, Change, Closing, Expiry, Item, Queue, Submitted, Wait, WorkOp, WorkReply, WorkState,
+    BusyFlags, Change, Closing, Expiry, Item, Queue, Submitted, WorkOp, WorkReply, WorkState,
     cancel_start_reply, cancel_wait, change, drain, drain_reply, drain_wait, flush_start_reply,
-    flush_wait, fresh_queues, is_pending, is_worker, put_wait, remaining, start_reply, stop,
-    stop_reply, submission, unplug_reply,
+    flush_wait, fresh_queues, is_pending, is_worker, remaining, start_reply, stop, stop_reply,
+    submission, unplug_reply,
 };
 
 /// What an operation answers, where there is memory: its reply, where it is possible.
@@ -45,16 +47,18 @@ pub struct WorkEngine {
     last: Vec<Option<u32>>,
     // What waits, what runs, and the items that are armed.
     active: Active,
-    // The waits that aren't answered.
-    waits: Vec<Wait>,
+    waits: OpenWaits,
+    // Of each item, which of its admissions flushes wait for.
+    flushed: Vec<Flushed>,
     queues: Vec<Queue>,
     // The items whose busy flags the last operation may have changed. There is room for each item.
     touched: Vec<u32>,
 }
 
 impl Model for WorkEngine {
-    ghost use Rattle.std.specs.Prelude.{◌≡◌, ◌+◌, ◌-◌, ◌^◌, ◌≤◌, length, vec_len, vec_capacity};
+    ghost use Rattle.std.specs.Prelude.{◌≡◌, ◌+◌, ◌^◌, ◌≤◌, length, vec_capacity};
     ghost use Rattle.zk_work.specs.EngineState.{EngineState, EngineView};
+    ghost use Rattle.zk_work.specs.Flushed.{AreKept, AreOld};
     ghost use Rattle.zk_work.specs.Flushing.{AreFlushing};
 
     ghost Value = { EngineView };
@@ -68,10 +72,10 @@ impl Model for WorkEngine {
         last = a.last.items;
         active = a.active.admissions;
         timeouts = a.active.timeouts;
-        waits = a.waits.items;
+        waits = a.waits.waits;
         queues = a.queues.items;
       };
-      room = vec_capacity a.waits - vec_len a.waits;
+      room = a.waits.room;
       touched = a.touched.items;
     } };
 
@@ -79,7 +83,10 @@ impl Model for WorkEngine {
       runs : a.running ≤ 2 ^ 32;
       items : length a.last.items ≡ a.active.admissions.items;
       touched : a.active.admissions.items + 1 ≤ vec_capacity a.touched;
-      flushing : AreFlushing a.made a.active.admissions a.active.flushing a.waits.items;
+      flushing : AreFlushing a.made a.active.admissions a.active.flushing a.waits.waits;
+      kept : AreKept a.active.admissions a.flushed.items a.waits.waits;
+      old : AreOld a.made a.flushed.items;
+      placed : a.waits.next ≤ a.entries;
     } };
 }
 
@@ -90,18 +97,6 @@ fn no_queues(alloc: Global, items: u32) -> Result<Vec<Option<u32>>, NoMemory>
     let mut last = Vec::new(alloc);
     last.resize(items as usize, None)?;
     Ok(last)
-}
-
-/// One expiry more. There has to be a place for it.
-fn tell(told: &mut Vec<Expiry>, expiry: Expiry)
-    requires { vec_len told.old < vec_capacity told.old }
-    ensures items { told.new.items ≡ told.old.items ++ option_to_list (Some expiry) }
-    ensures len { vec_len told.new ≡ vec_len told.old + 1 }
-    ensures capacity { vec_capacity told.old ≤ vec_capacity told.new }
-{
-    if told.push(expiry).is_err() {
-        unreachable!();
-    }
 }
 
 impl WorkEngine {
@@ -121,6 +116,7 @@ impl WorkEngine {
         let queues = fresh_queues(alloc, workers, started)?;
         let active = Active::new(alloc, items, workers.len() as u32)?;
         let last = no_queues(alloc, items)?;
+        let flushed = no_flushed(alloc, items)?;
         let touched = Vec::with_capacity(alloc, items as usize + 1)?;
         Ok(WorkEngine {
             time: 0,
@@ -129,7 +125,8 @@ impl WorkEngine {
             running: 0,
             last,
             active,
-            waits: Vec::new(alloc),
+            waits: OpenWaits::new(alloc),
+            flushed,
             queues,
             touched,
         })
@@ -224,7 +221,7 @@ impl WorkEngine {
         ensures room { self.new.room ≡ self.old.room }
     {
         self.active.cancel(item);
-        mark_flushing(&mut self.active, &self.waits, item);
+        mark_flushing(&mut self.active, &self.waits, &self.flushed, item);
         settle(&self.active, &mut self.queues);
         self.entries += 1;
         Some(WorkReply::Flags(self.flags(item).bits()))
@@ -245,9 +242,9 @@ impl WorkEngine {
         let flags = self.flags(item);
         let run = self.active.running(item);
         let wait = cancel_wait(self.entries, who, run);
-        put_wait(&mut self.waits, wait)?;
+        self.waits.put(self.entries, wait)?;
         self.active.cancel(item);
-        mark_flushing(&mut self.active, &self.waits, item);
+        mark_flushing(&mut self.active, &self.waits, &self.flushed, item);
         settle(&self.active, &mut self.queues);
         self.entries += 1;
         Ok(Some(cancel_start_reply(flags.bits(), run.is_some())))
@@ -268,10 +265,12 @@ impl WorkEngine {
         self.waits.reserve(1)?;
         self.hurry(who, item);
         let waiting = self.active.waiting(item);
-        let number = waiting.or(self.active.running(item));
+        let running = self.active.running(item);
+        let number = waiting.or(running);
         let wait = flush_wait(self.entries, who, number);
-        put_wait(&mut self.waits, wait)?;
-        mark_flushing(&mut self.active, &self.waits, item);
+        self.waits.put(self.entries, wait)?;
+        note(&mut self.flushed, item, running, number);
+        mark_flushing(&mut self.active, &self.waits, &self.flushed, item);
         self.entries += 1;
         Ok(Some(flush_start_reply(number)))
     }
@@ -462,7 +461,7 @@ impl WorkEngine {
         ensures room { self.new.room ≡ self.old.room }
     {
         self.touched.clear();
-        let alloc = *self.waits.allocator();
+        let alloc = *self.touched.allocator();
         let time = self.time + u64::from(ticks);
         let due = self.active.count_due(time);
         let mut expiries = Vec::with_capacity(alloc, due)?;
@@ -490,7 +489,7 @@ impl WorkEngine {
     {
         let idle = self.active.is_idle(queue);
         let wait = drain_wait(idle, self.entries, &self.queues, who, queue);
-        put_wait(&mut self.waits, wait)?;
+        self.waits.put(self.entries, wait)?;
         drain(&mut self.queues, queue, idle, plug);
         self.entries += 1;
         Ok(Some(drain_reply(idle)))
@@ -614,7 +613,7 @@ impl WorkEngine {
             return None;
         }
         let (item, number) = self.active.begin(queue)?;
-        mark_flushing(&mut self.active, &self.waits, item);
+        mark_flushing(&mut self.active, &self.waits, &self.flushed, item);
         self.running += 1;
         self.entries += 1;
         Some(WorkReply::Run(item, number))
@@ -631,7 +630,7 @@ impl WorkEngine {
             return None;
         }
         let (item, _) = self.active.end(queue)?;
-        mark_flushing(&mut self.active, &self.waits, item);
+        mark_flushing(&mut self.active, &self.waits, &self.flushed, item);
         settle(&self.active, &mut self.queues);
         self.running -= 1;
         self.entries += 1;
@@ -768,7 +767,7 @@ impl Engine for WorkEngine {
     }
 
     fn owed(&self) -> u64 {
-        self.running + self.waits.len() as u64
+        self.running + self.waits.len()
     }
 
     fn word(&self, index: u32) -> u32 {
@@ -788,7 +787,7 @@ impl Engine for WorkEngine {
     }
 
     fn room(&self) -> u64 {
-        (self.waits.capacity() - self.waits.len()) as u64
+        self.waits.room()
     }
 
     fn counts_entries() {}

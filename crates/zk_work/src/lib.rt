@@ -2,8 +2,10 @@
 #![tactic(auto)]
 
 mod active;
-mod copies;
 mod engine;
+mod flushed;
+mod open_waits;
+mod told;
 mod touched;
 mod waits;
 mod work;

@@ -1,54 +1,38 @@
-ghost use Rattle.std.specs.Prelude.{◌≡◌, ◌<◌, ◌≤◌, not, filter, set, vec_len, vec_capacity};
+ghost use Rattle.std.specs.Prelude.{◌≡◌, ◌<◌, ◌≤◌, set};
 ghost use Rattle.std.specs.List.{list_any};
 ghost use Rattle.zk_model_work.specs.Answers.{closes};
-ghost use Rattle.zk_work.specs.Engine.{is_number, flushes, is_flushing, has_come, left_waits};
+ghost use Rattle.zk_work.specs.Engine.{is_flushing, has_come, left_waits};
+ghost use Rattle.zk_work.specs.Flushed.{AreKept};
 
 use crate::active::Active;
+use crate::flushed::{Flushed, holds};
+use crate::open_waits::OpenWaits;
 use zk_base::Who;
 use zk_model_work::{Awaited, Closing, Queue, Wait, drained_of, is_unanswered};
 
-/// Whether it is this number.
-fn is_number(number: u64, found: Option<u64>) -> bool
-    ensures { result ≡ is_number number found }
-{
-    match found {
-        None => false,
-        Some(it) => it == number,
-    }
-}
-
-/// Whether this is a flush of one of these, the item's waiting and its running admission.
-fn flushes(waiting: Option<u64>, running: Option<u64>, awaited: Awaited) -> bool
-    ensures { result ≡ flushes waiting running awaited }
-{
-    match awaited {
-        Awaited::Flush(number) => is_number(number, waiting) || is_number(number, running),
-        _ => false,
-    }
-}
-
 /// Whether a flush waits for an admission of the item. Where nobody waits, the item isn't asked.
-fn is_flushing(active: &Active, waits: &[Wait], item: u32) -> bool
-    requires { item < active.now.admissions.items }
-    ensures { result ≡ is_flushing active.now.admissions waits.now item }
+fn is_flushing(active: &Active, waits: &OpenWaits, flushed: &[Flushed], item: u32) -> bool
+    requires item { item < active.now.admissions.items }
+    requires kept { AreKept active.now.admissions flushed.now waits.now.waits }
+    ensures { result ≡ is_flushing active.now.admissions waits.now.waits item }
 {
     if waits.is_empty() {
         return false;
     }
-    let waiting = active.waiting(item);
-    let running = active.running(item);
-    waits.iter().any(|w| flushes(waiting, running, w.awaited))
+    let numbers = flushed[item as usize];
+    holds(numbers, active.waiting(item)) || holds(numbers, active.running(item))
 }
 
 /// The word of the item says whether a flush waits for an admission of it.
-pub fn mark_flushing(active: &mut Active, waits: &[Wait], item: u32)
-    requires { item < active.old.admissions.items }
+pub fn mark_flushing(active: &mut Active, waits: &OpenWaits, flushed: &[Flushed], item: u32)
+    requires item { item < active.old.admissions.items }
+    requires kept { AreKept active.old.admissions flushed.now waits.now.waits }
     ensures admissions { active.new.admissions ≡ active.old.admissions }
     ensures timeouts { active.new.timeouts ≡ active.old.timeouts }
     ensures flushing { active.new.flushing
-        ≡ set active.old.flushing item (is_flushing active.old.admissions waits.now item) }
+        ≡ set active.old.flushing item (is_flushing active.old.admissions waits.now.waits item) }
 {
-    let flushing = is_flushing(active, waits, item);
+    let flushing = is_flushing(active, waits, flushed, item);
     active.mark_flushing(item, flushing);
 }
 
@@ -82,31 +66,36 @@ fn closes(
 pub fn may_close(
     active: &Active,
     queues: &[Queue],
-    waits: &[Wait],
+    waits: &OpenWaits,
     closing: Closing,
     who: Who,
     place: u64,
 ) -> bool
-    ensures { result ≡ list_any (closes (has_come active.now.admissions queues.now closing) who place) waits.now }
+    ensures { result
+        ≡ list_any (closes (has_come active.now.admissions queues.now closing) who place) waits.now.waits }
 {
-    waits
-        .iter()
-        .any(|w| closes(active, queues, closing, who, place, *w))
+    match waits.at(place) {
+        None => false,
+        Some(wait) => closes(active, queues, closing, who, place, wait),
+    }
 }
 
-/// The waits that this ends are taken out.
+/// The wait that this ends is taken out.
 pub fn close(
     active: &Active,
     queues: &[Queue],
-    waits: &mut Vec<Wait>,
+    waits: &mut OpenWaits,
     closing: Closing,
     who: Who,
     place: u64,
 )
-    ensures items { waits.new.items
-        ≡ left_waits active.now.admissions queues.now waits.old.items closing who place }
-    ensures len { vec_len waits.new ≤ vec_len waits.old }
-    ensures capacity { vec_capacity waits.new ≡ vec_capacity waits.old }
+    ensures waits { waits.new.waits
+        ≡ left_waits active.now.admissions queues.now waits.old.waits closing who place }
+    ensures next { waits.new.next ≡ waits.old.next }
+    ensures room { waits.old.room ≤ waits.new.room }
 {
-    waits.retain(|wait| !closes(active, queues, closing, who, place, *wait));
+    if may_close(active, queues, waits, closing, who, place) {
+        waits.in_order();
+        waits.take_out(place);
+    }
 }

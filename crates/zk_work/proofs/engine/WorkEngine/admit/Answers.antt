@@ -4,6 +4,7 @@ use Rattle.zk_queue.specs.Open.{Open, is_queued, admit}
 use Rattle.zk_work.specs.EngineState.{EngineView}
 use Rattle.zk_work.proofs.Numbered.{not-queued}
 use Rattle.zk_work.proofs.Flushing.{flushing-admit, flushing-as}
+use Rattle.zk_work.proofs.Kept.{kept-admit, kept-as, old-later}
 use Rattle.zk_work.proofs.engine.WorkEngine.admit.Goals as goal
 
 pub invariant_of-self : goal.invariant_of-self
@@ -22,6 +23,12 @@ invariant_of-self c =
       items = omega arith;
       touched = omega arith;
       flushing = flushing-as (i.made + 1) (admit o c.args.item c.args.queue i.made) new.admissions i.active.flushing new.flushing
-          i.waits.items i.waits.items c.admit.ensures.admissions c.admit.ensures.flushing refl
-          (flushing-admit i.made o i.active.flushing i.waits.items c.args.item c.args.queue c.self.invariant.flushing free);
+          i.waits.waits i.waits.waits c.admit.ensures.admissions c.admit.ensures.flushing refl
+          (flushing-admit i.made o i.active.flushing i.waits.waits c.args.item c.args.queue c.self.invariant.flushing free);
+      kept = kept-as (admit o c.args.item c.args.queue i.made) new.admissions i.flushed.items i.flushed.items
+          i.waits.waits i.waits.waits c.admit.ensures.admissions refl refl
+          (kept-admit i.made o i.flushed.items i.waits.waits c.args.item c.args.queue c.self.invariant.kept
+          c.self.invariant.flushing.made c.self.invariant.old free);
+      old = old-later i.made i.flushed.items c.self.invariant.old;
+      placed = c.self.invariant.placed;
     }

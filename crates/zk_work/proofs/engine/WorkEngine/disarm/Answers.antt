@@ -17,7 +17,7 @@ returns-clause-whole c =
       last = i.last.items;
       active = o;
       timeouts = t;
-      waits = i.waits.items;
+      waits = i.waits.waits;
       queues = i.queues.items;
     } in
     let view : K i.active.admissions i.active.timeouts ≡ c.args.self.now.state = ap (λ (h : EngineView). h.state) c.self.view_is in

@@ -8,9 +8,9 @@ pub returns : goal.returns
 returns c = λ s stands.
     let running : c.self.inside.running ≡ c.args.self.now.state.running =
     ap (λ (h : EngineView). h.state.running) c.self.view_is in
-    let waits : length c.self.inside.waits.items ≡ length c.args.self.now.state.waits =
+    let waits : length c.self.inside.waits.waits ≡ length c.args.self.now.state.waits =
     ap (λ (h : EngineView). length h.state.waits) c.self.view_is in
-    let long : c.len.result ≡ length c.self.inside.waits.items = c.len.ensures ∙ c.self.inside.waits.ok.0 in
+    let long : c.len.result ≡ length c.self.inside.waits.waits = c.len.ensures.len in
     let count = stands.admissions.running in
     let open_waits = ap length stands.waits.left
     ∙ length-filter (λ (w : Wait). Rattle.std.proofs.Common.not w.answered) s.waits in

@@ -1,5 +1,0 @@
-use Rattle.zk_model_wait.proofs.ClockOwed.{counts, ranges, adds, gives}
-use Rattle.zk_model_wait.proofs.clock.ClockStoreStore.counts_entries.Goals as goal
-
-pub returns : goal.returns
-returns c = record { counts = counts; ranges = ranges; adds = adds; gives = gives }
