@@ -1,5 +1,6 @@
 pub mod Calls
 mod Counting
+pub mod Crossing
 pub mod Dealing
 mod Ending
 mod Glances

@@ -1,6 +1,6 @@
 //! Threads that take items out of one pool and give them back.
 ghost use Rattle.std.specs.Prelude.{◌≡◌};
-ghost use Rattle.zk_uses.specs.Juggling.{IsFree};
+ghost use Rattle.zk_uses.specs.Juggling.{IsFree, HaveTaken, HaveTakenAll, HaveTakenBoth};
 
 use std::sync::Wait;
 use std::thread;
@@ -25,12 +25,13 @@ pub fn juggle<T: Juggled, R: Wait>(
     times: u32,
 ) -> (Hand<T>, u64)
     requires { IsFree T.number T.home pool.now hand }
-    ensures { IsFree T.number T.home pool.now result.0 }
+    ensures free { IsFree T.number T.home pool.now result.0 }
+    ensures taken { HaveTaken times hand result.0 result.1 }
 {
     let mut caught = 0u64;
-    for _ in 0..times {
+    for _taken in 0..times {
         if let Some(mut item) = pool.take(rt, &mut hand) {
-            caught = caught.wrapping_add(1);
+            caught += 1;
             item.catch();
             pool.give(rt, &mut hand, item);
         }
@@ -49,20 +50,23 @@ pub fn juggled_by_two<T: Juggled + Send + Sync, R: Threads + Wait + Sync>(
     requires second { IsFree T.number T.home pool.now hands.1 }
     ensures first { IsFree T.number T.home pool.now result.0.0 }
     ensures second { IsFree T.number T.home pool.now result.0.1 }
+    ensures taken { HaveTakenBoth times hands result.0 result.1 }
 {
     let (first, second) = hands;
     let ((first, caught), (second, more)) = thread::join(
         rt,
         move ||
             requires { IsFree T.number T.home pool.now first }
-            ensures { IsFree T.number T.home pool.entry.now result.0 }
+            ensures free { IsFree T.number T.home pool.entry.now result.0 }
+            ensures taken { HaveTaken times first result.0 result.1 }
         { juggle(rt, pool, first, times) },
         move ||
             requires { IsFree T.number T.home pool.now second }
-            ensures { IsFree T.number T.home pool.entry.now result.0 }
+            ensures free { IsFree T.number T.home pool.entry.now result.0 }
+            ensures taken { HaveTaken times second result.0 result.1 }
         { juggle(rt, pool, second, times) },
     );
-    ((first, second), caught.wrapping_add(more))
+    ((first, second), caught + more)
 }
 
 /// Four threads juggle them.
@@ -76,18 +80,21 @@ pub fn juggled_by_four<T: Juggled + Send + Sync, R: Threads + Wait + Sync>(
     requires second { IsFree T.number T.home pool.now hands.1.0 × IsFree T.number T.home pool.now hands.1.1 }
     ensures first { IsFree T.number T.home pool.now result.0.0.0 × IsFree T.number T.home pool.now result.0.0.1 }
     ensures second { IsFree T.number T.home pool.now result.0.1.0 × IsFree T.number T.home pool.now result.0.1.1 }
+    ensures taken { HaveTakenAll times hands result.0 result.1 }
 {
     let (first, second) = hands;
     let ((first, caught), (second, more)) = thread::join(
         rt,
         move ||
             requires { IsFree T.number T.home pool.now first.0 × IsFree T.number T.home pool.now first.1 }
-            ensures { IsFree T.number T.home pool.entry.now result.0.0 × IsFree T.number T.home pool.entry.now result.0.1 }
+            ensures free { IsFree T.number T.home pool.entry.now result.0.0 × IsFree T.number T.home pool.entry.now result.0.1 }
+            ensures taken { HaveTakenBoth times first result.0 result.1 }
         { juggled_by_two(rt, pool, first, times) },
         move ||
             requires { IsFree T.number T.home pool.now second.0 × IsFree T.number T.home pool.now second.1 }
-            ensures { IsFree T.number T.home pool.entry.now result.0.0 × IsFree T.number T.home pool.entry.now result.0.1 }
+            ensures free { IsFree T.number T.home pool.entry.now result.0.0 × IsFree T.number T.home pool.entry.now result.0.1 }
+            ensures taken { HaveTakenBoth times second result.0 result.1 }
         { juggled_by_two(rt, pool, second, times) },
     );
-    ((first, second), caught.wrapping_add(more))
+    ((first, second), caught + more)
 }

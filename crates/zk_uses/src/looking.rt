@@ -2,7 +2,7 @@
 ghost use Rattle.std.specs.Prelude.{◌≡◌, ◌+◌, ◌<◌, ◌≤◌, All, length};
 ghost use Rattle.zk_base.specs.Legal.{IsLegal};
 ghost use Rattle.zk_turn.specs.Passes.{IsPassOf, given_to, pass_players, players_in};
-ghost use Rattle.zk_uses.specs.Looks.{HasLooked, IsLookAt, IsReady};
+ghost use Rattle.zk_uses.specs.Looks.{HasLooked, IsLookAt, IsReady, KeptLooks};
 
 use zk_base::{Entry, Service, Who, push_within};
 use zk_turn::{Cell, Look, Pass};
@@ -25,7 +25,8 @@ pub fn look_often<S: Service>(
     requires index { index < S.WORDS }
     requires times { times ≤ 20000 }
     requires ready { IsReady (IsLegal S.machine) S.start cell.now times looker }
-    ensures { HasLooked S.machine S.start S.word cell.now index looker.who result }
+    ensures found { HasLooked S.machine S.start S.word cell.now index looker.who result }
+    ensures looked { KeptLooks times result }
 {
     let Looker {
         who,

@@ -7,7 +7,8 @@ use denote.Ref.{NamedLft}
 use denote.Struct.Field as Field
 use mir.Syntax.{Dict, named}
 use Rattle.zk_work.proofs.Crossing.{work_send}
-use Rattle.zk_uses.proofs.Crossing.{cell_sync, looker_send, ref_send, closure_of_three}
+use Rattle.zk_turn.proofs.Crossing.{cell_sync}
+use Rattle.zk_uses.proofs.Crossing.{looker_send, ref_send, closure_of_three}
 use Rattle.zk_uses.proofs.looked_at.looked_at_by_two.Lts as lts
 use Rattle.zk_uses.proofs.looked_at.looked_at_by_two.Goals as goal
 

@@ -8,14 +8,15 @@ use denote.Ref.{NamedLft}
 use denote.Struct.Field as Field
 use mir.Syntax.{Dict, named}
 use Rattle.zk_work.proofs.Crossing.{work_send}
-use Rattle.zk_uses.proofs.Crossing.{cell_sync, looker_send, ref_send, closure_of_five}
+use Rattle.zk_turn.proofs.Crossing.{cell_sync}
+use Rattle.zk_uses.proofs.Crossing.{looker_send, ref_send, closure_of_five}
 use Rattle.zk_uses.proofs.looked_at.looked_at_meanwhile.Lts as lts
 use Rattle.zk_uses.proofs.looked_at.looked_at_meanwhile.Goals as goal
 
-the_cell : (R : RattleType) (laws : Laws R) (threads wait : Dict) → IsSync (lts.of-2 R laws threads wait)
+the_cell : (R : RattleType) (laws : Laws R) (threads wait : Dict) → IsSync (lts.of-4 R laws threads wait)
 the_cell R laws threads wait = search (cell_sync, work_send) depth 14
 
-the_looker : (R : RattleType) (laws : Laws R) (threads wait : Dict) → IsSend (lts.of-8 R laws threads wait)
+the_looker : (R : RattleType) (laws : Laws R) (threads wait : Dict) → IsSend (lts.of-10 R laws threads wait)
 the_looker R laws threads wait = search (looker_send, work_send) depth 14
 
 -- what the first thread takes with it, apart from all that is known where it starts
@@ -23,10 +24,10 @@ taken : (R : RattleType) (laws : Laws R) (threads wait : Dict) (κs : Lfts 10) �
 taken R laws threads wait κs sync =
     let to_rt : NamedLft = record { mir = named 6; lft = κs.1.1.1.1.1.1.0 } in
     let to_cell : NamedLft = record { mir = named 7; lft = κs.1.1.1.1.1.1.1.0 } in
-    let held = closure_of_five (lts.name-28 R laws threads wait) (Field.shr_ref_field to_rt (param 0 R) tt).row
-    (Field.shr_ref_field to_cell (lts.of-2 R laws threads wait) tt).row (lts.of-8 R laws threads wait)
-    (lts.of-8 R laws threads wait) (Field.u32-field).row
-    (ref_send to_rt (param 0 R) tt sync) (ref_send to_cell (lts.of-2 R laws threads wait) tt (the_cell R laws threads wait))
+    let held = closure_of_five _ (Field.shr_ref_field to_rt (param 0 R) tt).row
+    (Field.shr_ref_field to_cell (lts.of-4 R laws threads wait) tt).row (lts.of-10 R laws threads wait)
+    (lts.of-10 R laws threads wait) (Field.u32-field).row
+    (ref_send to_rt (param 0 R) tt sync) (ref_send to_cell (lts.of-4 R laws threads wait) tt (the_cell R laws threads wait))
     (the_looker R laws threads wait) (the_looker R laws threads wait) (search sendable depth 8) in
     arg_send _ no _ held
 

@@ -34,3 +34,9 @@ loop-round-preserved g c =
       omega arith,
       omega arith,
     )
+
+pub returns-clause-looked : goal.returns-clause-looked
+returns-clause-looked g c =
+    let inv = c.loop-round.invariant in
+    let end = c.loop-round.auto._round-end in
+    record { count = omega (arith, end, inv.3); room = omega (arith, end, inv.4) }

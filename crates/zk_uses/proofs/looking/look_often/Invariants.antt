@@ -12,5 +12,5 @@ invariant-loop-round g l =
     × (pass_players l.pass ≡ l.fn.looker.who ∷ [])
     × All (IsLookAt m start g.S.Service.word l.cell l.index (pass_seen l.pass)) l.looks.items
     × (length l.looks.items ≡ l._round)
-    × (20000 ≤ l._round + pass_room l.pass)
+    × (pass_room l.pass + l._round ≡ 20000)
     × (l.times ≤ vec_capacity l.looks)

@@ -1,7 +1,9 @@
-use Rattle.std.proofs.Common.{◌+◌, subst, ◌∙◌, arith}
+use Rattle.std.proofs.Common.{◌≡◌, ℕ, ◌+◌, is_err, refl, sym, ap, subst, ◌∙◌, arith}
 use Rattle.zk_base.specs.History.{IsAbove}
-use Rattle.zk_turn.specs.Passes.{pass_mine}
+use Rattle.zk_turn.specs.Passes.{given_to, pass_mine, pass_seen}
 use Rattle.zk_turn.proofs.Calls.{entries_made-few}
+use Rattle.zk_uses.specs.Callers.{in_turn}
+use Rattle.zk_uses.proofs.Called.{HaveLed, led-on, called-all, called-some, in_turn-again}
 use Rattle.zk_uses.proofs.often.call_in_turn.Goals as goal
 
 pub loop-step-preserved : goal.loop-step-preserved
@@ -11,8 +13,10 @@ loop-step-preserved g c =
     let room = called.room in
     let some = before.4 in
     let holds = called.holds in
-    let more = before.7 in
-    let few = entries_made-few c.call-next.result.1 in (
+    let more = before.8 in
+    let few = entries_made-few c.call-next.result.1 in
+    let fine = ap is_err c.in-Ok.is in
+    let more_on : c.loop-step.step + 2 ≡ c.loop-step.step + 1 + 1 = omega arith in (
       called.own,
       called.players ∙ before.1,
       called.who ∙ before.2,
@@ -20,5 +24,22 @@ loop-step-preserved g c =
       omega arith,
       before.6,
       before.5,
+      led-on g.S.Service.machine _ c.args.caller.who (in_turn c.args.ops) c.loop-step.step _ c.loop-step.op c.call-next.result.1 _ _ before.2 before.9 fine before.7 called.called,
       omega arith,
+      before.10,
+      before.9 ∙ sym (in_turn-again c.args.ops c.loop-step.step) ∙ ap (in_turn c.args.ops) more_on,
     )
+
+pub returns-in-Err-clause-called : goal.returns-in-Err-clause-called
+returns-in-Err-clause-called g c =
+    let before = c.loop-step.invariant in
+    called-some g.S.Service.machine _ c.args.caller.who (in_turn c.args.ops) c.args.times c.loop-step.step _ c.loop-step.op c.call-next.result.1 _ _ _ before.2 (ap is_err c.in-Err.is) before.7
+    c.call-next.ensures.called (omega arith)
+
+pub returns-clause-called : goal.returns-clause-called
+returns-clause-called g c =
+    let m = g.S.Service.machine in
+    let start = g.S.Service.start (given_to c.args.cell.now) in
+    let end = c.loop-step.auto.step-end in
+    let led = subst (λ (n : ℕ). HaveLed m start c.args.caller.who (in_turn c.args.ops) n (pass_seen c.loop-step.pass)) (omega (arith, end)) c.loop-step.invariant.7 in
+    called-all m start c.args.caller.who (in_turn c.args.ops) c.args.times _ (pass_seen c.loop-step.pass) led refl

@@ -1,7 +1,9 @@
 use Rattle.std.proofs.Common.{◌≡◌, ◌+◌, ◌≤◌, true, [], ◌∷◌}
 use Rattle.zk_base.specs.History.{IsAbove}
 use Rattle.zk_base.specs.Legal.{IsLegal}
-use Rattle.zk_turn.specs.Passes.{IsPassOf, given_to, pass_players, pass_who, pass_mine, pass_room, pass_holds}
+use Rattle.zk_turn.specs.Passes.{IsPassOf, given_to, pass_players, pass_who, pass_seen, pass_mine, pass_room, pass_holds}
+use Rattle.zk_uses.specs.Callers.{in_turn}
+use Rattle.zk_uses.proofs.Called.{HaveLed}
 use Rattle.zk_uses.proofs.often.call_in_turn.Given as goal
 
 abbrev pub invariant-loop-step : goal.invariant-loop-step
@@ -13,4 +15,7 @@ invariant-loop-step g l =
     × (20000 ≤ l.step + pass_room l.pass)
     × (g.S.Service.machine.in_range (g.S.Service.start (given_to l.cell)) l.op ≡ true)
     × (g.S.Service.machine.in_range (g.S.Service.start (given_to l.cell)) l.other ≡ true)
-    × (l.step ≤ pass_holds l.pass)
+    × HaveLed g.S.Service.machine (g.S.Service.start (given_to l.cell)) l.fn.caller.who (in_turn l.fn.ops) l.step (pass_seen l.pass)
+    × (pass_holds l.pass ≡ l.step)
+    × (l.op ≡ in_turn l.fn.ops l.step)
+    × (l.other ≡ in_turn l.fn.ops (l.step + 1))
