@@ -30,6 +30,7 @@ impl Alike for WorkReply {
             (WorkReply::Number(number), WorkReply::Number(found)) => number == found,
             (WorkReply::Done, WorkReply::Done) => true,
             (WorkReply::Already, WorkReply::Already) => true,
+            (WorkReply::Busy, WorkReply::Busy) => true,
             (WorkReply::Now(time, ended), WorkReply::Now(at, found)) => {
                 time == at && are_alike(ended, found)
             }

@@ -8,7 +8,7 @@ use Rattle.std.specs.Option.{option_or}
 use Rattle.std.proofs.lemmas.Bool.{cases_Bool, cond-true, cond-false, and_parts, and_from, false≢true}
 use Rattle.std.proofs.lemmas.Fmt.{digits_decimal, decimal_nonempty}
 use Rattle.std.proofs.lemmas.List.{append_assoc}
-use Rattle.std.proofs.lemmas.Option.{same_Some, none-some}
+use Rattle.std.proofs.lemmas.Option.{same_Some, none-some, option_and_then_some}
 use Rattle.std.proofs.lemmas.Slice.Eq.{bytes_eq-Decides}
 use Rattle.zk_base.specs.declared.errors.Errno.{Errno}
 use Rattle.zk_base.specs.declared.errors.Errno.TheVariants as errnos
@@ -27,7 +27,12 @@ use Rattle.zk_line.specs.Objects.{AreNames, is_at, is_chan}
 use Rattle.zk_worker.specs.declared.answers.Answer.{Answer}
 use Rattle.zk_worker.specs.declared.answers.Answer.TheVariants as answers
 use Rattle.zk_worker.specs.declared.answers.Answered.{Answered}
-use Rattle.zk_trace.specs.AnswerRead.{all_calls, call_of, refusals, refusal_of, IsRefusal, oops_answer, IsOops, flags_answer, IsFlags, truth_answer, IsTruth, bytes_answer, IsBytes, can_be_value, value_words_of, signal_value, signal_answer, IsSignal, ready_answer, IsReady, channel_answer, IsChannel, number_answer, IsNumber, value_of, IsValue, answer_row, answer_of, FitsAnswer, answered_front, answered_front_of, answered, answered_row, answered_of, IsAnswered}
+use Rattle.zk_words.specs.declared.word.Head.{Head}
+use Rattle.zk_words.specs.declared.word.Head.TheVariants.{Call}
+use Rattle.zk_words.specs.Lines.{head_of}
+use Rattle.zk_words.specs.Table.{row_of}
+use Rattle.zk_words.proofs.Formed.{head_spelled}
+use Rattle.zk_trace.specs.AnswerRead.{call_in, call_of, refusals, refusal_of, IsRefusal, oops_answer, IsOops, flags_answer, IsFlags, truth_answer, IsTruth, bytes_answer, IsBytes, can_be_value, value_words_of, signal_value, signal_answer, IsSignal, ready_answer, IsReady, channel_answer, IsChannel, number_answer, IsNumber, value_of, IsValue, answer_row, answer_of, FitsAnswer, answered_front, answered_front_of, answered, answered_row, answered_of, IsAnswered}
 use Rattle.zk_blocks.specs.Choices.{IsIn}
 use Rattle.zk_trace.specs.Exact.{IsPlain, IsUnfed, IsExact, IsExactRow, AreExact}
 use Rattle.zk_trace.specs.Fields.{named, all_errnos, IsOf, IsMessage, ArePositions}
@@ -35,7 +40,7 @@ use Rattle.zk_trace.specs.Looks.{raised_word}
 use Rattle.zk_trace.specs.Sides.{sign, pair}
 use Rattle.zk_trace.specs.Text.{answer_line}
 use Rattle.zk_trace.specs.Words.{errno_word, call_word, oops_word}
-use Rattle.zk_trace.proofs.Fields.{as_row, made, named_exact, errno_exact, oops_exact, flags_exact, truth_exact, message_exact, ready_exact, chan_exact}
+use Rattle.zk_trace.proofs.Fields.{as_row, made, errno_exact, oops_exact, flags_exact, truth_exact, message_exact, ready_exact, chan_exact}
 use Rattle.zk_trace.proofs.LookRead.{raised_exact, unsaid}
 use Rattle.zk_trace.proofs.NameWords.{unnamed}
 use Rattle.zk_trace.proofs.NumberWords.{wide_exact, narrow_exact, short_exact}
@@ -44,10 +49,18 @@ use Rattle.zk_trace.proofs.Sides.{sides_exact, kept_exact}
 
 -- a call, as it is spelled in a scenario
 pub call_exact : IsExact call_word (λ w. Unit {0}) call_of
-call_exact = named_exact call_word all_calls each where
+call_exact = record { again = λ w any. (each w).0; spelled = spelled; plain = λ w any. (each w).1 } where
   each : (w : Word) → (call_of (call_word w) ≡ Some w) × IsPlain (call_word w)
   each words.Submit = (refl, refl)
   each word = (refl, refl)
+
+  first-is : (head : Head) (w : Word) → call_in head ≡ Some w → (row_of head).first ≡ call_word w
+  first-is (Call v) w is = ap call_word (same_Some v w is)
+  first-is head w is = absurd (none-some w is)
+
+  spelled : (word : List ℕ) (w : Word) → call_of word ≡ Some w → (word ≡ call_word w) × Unit {0}
+  spelled word w said = option_and_then_some call_in (head_of word) w said
+      (λ head found is. (head_spelled word head found ∙ first-is head w is, tt))
 
 -- Some of the words of a table.
 

@@ -74,6 +74,7 @@ use Rattle.zk_trace.specs.declared.obs.Verb.TheVariants as obs_verbs
 use Rattle.zk_trace.specs.declared.sem.Verb.TheVariants as sem_verbs
 use Rattle.zk_trace.specs.declared.table.Verb.TheVariants as table_verbs
 use Rattle.zk_trace.specs.declared.work.Verb.TheVariants as work_verbs
+use Rattle.std.specs.List.{AllByRecursion}
 use Rattle.zk_trace.proofs.Suited.{in-each, Told, Suits, StageSuits, ProgressSuits}
 use Rattle.zk_trace.proofs.WaitAnswers.{Any, wait-well, channel-suits, waits-suits, take-fits, put-fits, get-fits, claim-fits, sub-fits, publish-fits, notify-fits, read-fits, poll-suits}
 
@@ -158,15 +159,15 @@ module _ (decls : List Decl) where
   remaining-suits r (inl is) = absurd is
   remaining-suits r (inr fits) = absurd fits
 
-  start-suits : (r : WorkReply) → work_read.AnswersTo decls work_verbs.Start r → Suits decls words.Start (work_answer r)
-  start-suits r (inl is) =
-      in-each (λ r. Suits decls words.Start (work_answer r)) (work_read.fixed_replies work_verbs.Start) (λ sized. inr (inr sized), (λ sized. inl (inl refl), tt)) r is
-  start-suits r (inr fits) = absurd fits
-
-  unplug-suits : (r : WorkReply) → work_read.AnswersTo decls work_verbs.Unplug r → Suits decls words.Unplug (work_answer r)
-  unplug-suits r (inl is) =
-      in-each (λ r. Suits decls words.Unplug (work_answer r)) (work_read.fixed_replies work_verbs.Unplug) (λ sized. inr (inr sized), (λ sized. inl (inl refl), tt)) r is
-  unplug-suits r (inr fits) = absurd fits
+  -- a step at the work service whose replies are the same in each line
+  fixed-suits : (op : WorkOp) (word : Word) (stage : Stage) (k : ℕ) (made : Step) (reply : StepReply) →
+      ((r : WorkReply) → work_read.FitsOpen decls (work.said_of op).0 r → ⊥) →
+      AllByRecursion (λ r. Suits decls word (work_answer r)) (work_read.fixed_replies (work.said_of op).0) →
+      slice_get (plan_attempts (One (steps.Work op)) stage) k ≡ Some made → Told decls made reply → Suits decls word (answer_of reply)
+  fixed-suits op word stage k made reply none each = one-suits word (steps.Work op) stage k made reply (of-work op word by) where
+    by : (r : WorkReply) → work_read.AnswersTo decls (work.said_of op).0 r → Suits decls word (work_answer r)
+    by r (inl is) = in-each (λ r. Suits decls word (work_answer r)) (work_read.fixed_replies (work.said_of op).0) each r is
+    by r (inr fits) = absurd (none r fits)
 
   busy-suits : (item : ℕ) (r : StepReply) → Told decls (steps.LookItem item) r → Suits decls words.Busy (answer_of r)
   busy-suits item (step_replies.Flags flags at) told = λ sized. inr (inr told)
@@ -320,14 +321,14 @@ module _ (decls : List Decl) where
       one-suits words.Remaining (steps.Work op) stage k made reply (of-work op words.Remaining remaining-suits) ahead told
   call-suits (calls.Busy item) stage k made reply suits ahead told = one-suits words.Busy (steps.LookItem (ref_object item)) stage k made reply (busy-suits (ref_object item)) ahead told
   call-suits (calls.Start queue) stage k made reply suits ahead told =
-      let op : WorkOp = ops.Start (ref_number decls queue) in
-      one-suits words.Start (steps.Work op) stage k made reply (of-work op words.Start start-suits) ahead told
+      fixed-suits (ops.Start (ref_number decls queue)) words.Start stage k made reply (λ r none. none) (λ sized. inr (inr sized), (λ sized. inl (inl refl), tt)) ahead told
   call-suits (calls.Drain queue plug) stage k made reply suits ahead told =
       let op : WorkOp = ops.DrainStart (ref_number decls queue) plug in
       pair-suits words.Drain op closings.Drain stage k made reply (drain_start-opens (Pair (steps.Work op) closings.Drain)) (λ place. of-work (ops.DrainDone place) words.Drain drained-suits) ahead told
   call-suits (calls.Unplug queue) stage k made reply suits ahead told =
-      let op : WorkOp = ops.Unplug (ref_number decls queue) in
-      one-suits words.Unplug (steps.Work op) stage k made reply (of-work op words.Unplug unplug-suits) ahead told
+      fixed-suits (ops.Unplug (ref_number decls queue)) words.Unplug stage k made reply (λ r none. none) (λ sized. inr (inr sized), (λ sized. inl (inl refl), tt)) ahead told
+  call-suits (calls.Stop queue) stage k made reply suits ahead told =
+      fixed-suits (ops.Stop (ref_number decls queue)) words.Stop stage k made reply (λ r none. none) (λ sized. inr (inr sized), (λ sized. inl (inl refl), (λ sized. inl (inr (inl refl)), tt))) ahead told
   call-suits (calls.Tick ticks) stage k made reply suits ahead told = tick-suits ticks stage k made reply ahead told
   call-suits (calls.Take object timeout) stage k made reply suits ahead told =
       waits-suits decls (Wait (Take (ref_object object)) timeout) (wait_progress words.Take stage reply)

@@ -24,11 +24,12 @@ use Rattle.zk_model_work.specs.declared.parts.Arm.{Arm}
 use Rattle.zk_model_work.specs.declared.parts.Closing.TheVariants as closings
 use Rattle.zk_model_work.specs.declared.parts.Item.{Item}
 use Rattle.zk_model_work.specs.declared.parts.Queue.{Queue}
-use Rattle.zk_model_work.specs.Answers.{is_chained, target, admission, submission_to, submission_at, submission, flush_start_reply, cancel_start_reply, start_reply, is_started, unplug_reply, is_plugged, drain_reply, remaining}
+use Rattle.zk_model_work.specs.Answers.{is_chained, target, admission, submission_to, submission_at, submission, flush_start_reply, cancel_start_reply, start_reply, is_started, unplug_reply, is_plugged, stop_reply, drain_reply, remaining}
 use Rattle.zk_model_work.specs.Lists.{first}
 use Rattle.zk_model_work.specs.Machine.{submit, submission_in, cancel, flags_of, flushed_of, expiries, is_pending_in, delay_reply_in, schedule_reply_in, announce_reply, may_close, may_begin, may_end, taken_up, work_reply, work_machine}
 use Rattle.zk_model_work.specs.Questions.{runs_as, running, last_queue, line, due, deadline_of, is_empty_and_idle, weight, busy_flags, item_of}
 use Rattle.zk_model_work.specs.State.{State}
+use Rattle.zk_trace.specs.declared.work.Verb.{Verb}
 use Rattle.zk_trace.specs.declared.work.Verb.TheVariants as verbs
 use Rattle.zk_blocks.specs.Choices.{IsIn}
 use Rattle.zk_trace.specs.Fields.{IsItem, IsQueue}
@@ -184,13 +185,10 @@ module _ (decls : List Decl) where
   flush-says None sized = inl (inr (inl refl))
   flush-says (Some number) sized = inr sized.parts.1.0
 
-  start-says : (b : Bool) → AnswersTo decls verbs.Start (cond b replies.Already replies.Done)
-  start-says true = inl (inr (inl refl))
-  start-says false = inl (inl refl)
-
-  unplug-says : (b : Bool) → AnswersTo decls verbs.Unplug (cond b replies.Done replies.Already)
-  unplug-says true = inl (inl refl)
-  unplug-says false = inl (inr (inl refl))
+  -- one of two replies, by a test
+  either : (verb : Verb) (b : Bool) (x y : WorkReply) → AnswersTo decls verb x → AnswersTo decls verb y → AnswersTo decls verb (cond b x y)
+  either verb true x y one two = one
+  either verb false x y one two = two
 
   drain-says : (b : Bool) → IsSizedWork (cond b (replies.Number 0) replies.Wait) → AnswersTo decls verbs.DrainStart (cond b (replies.Number 0) replies.Wait)
   drain-says true sized = inr sized.parts.0
@@ -246,12 +244,16 @@ module _ (decls : List Decl) where
       (delay-says delay (submission_in s (Some who.number) item (Some queue)) (named-goes s.admissions s.marks s.queues (Some who.number) item queue kept.admissions kept.queues is.1))
   says s who (ops.Remaining item) r kept is told =
       subst (Says (ops.Remaining item)) (same_Some (replies.Number (remaining (deadline_of s.arms item) s.time)) r told) (λ sized. inr sized.parts.0)
-  says s who (ops.Start queue) r kept is told = subst (Says (ops.Start queue)) (same_Some (start_reply s.queues queue) r told) (λ sized. start-says (is_started s.queues queue))
+  says s who (ops.Start queue) r kept is told = subst (Says (ops.Start queue)) (same_Some (start_reply s.queues queue) r told) (λ sized. either verbs.Start (is_started s.queues queue) replies.Already replies.Done (inl (inr (inl refl))) (inl (inl refl)))
   says s who (ops.DrainStart queue plug) r kept is told =
       subst (Says (ops.DrainStart queue plug)) (same_Some (drain_reply (is_empty_and_idle s.admissions queue)) r told) (drain-says (is_empty_and_idle s.admissions queue))
   says s who (ops.DrainDone place) r kept is told =
       subst (Says (ops.DrainDone place)) (cond_some (may_close s closings.Drain who place) (replies.Number 1) r told).1 (λ sized. inr sized.parts.0)
-  says s who (ops.Unplug queue) r kept is told = subst (Says (ops.Unplug queue)) (same_Some (unplug_reply s.queues queue) r told) (λ sized. unplug-says (is_plugged s.queues queue))
+  says s who (ops.Unplug queue) r kept is told = subst (Says (ops.Unplug queue)) (same_Some (unplug_reply s.queues queue) r told) (λ sized. either verbs.Unplug (is_plugged s.queues queue) replies.Done replies.Already (inl (inl refl)) (inl (inr (inl refl))))
+  says s who (ops.Stop queue) r kept is told =
+      let idle = is_empty_and_idle s.admissions queue in
+      let may = is_plugged s.queues queue && idle in
+      subst (Says (ops.Stop queue)) (same_Some (stop_reply idle s.queues queue) r told) (λ sized. either verbs.Stop (not (is_started s.queues queue)) replies.Already (cond may replies.Done replies.Busy) (inl (inr (inl refl))) (either verbs.Stop may replies.Done replies.Busy (inl (inl refl)) (inl (inr (inr (inl refl))))))
   says s who (ops.Announce ticks) r kept is told =
       subst (Says (ops.Announce ticks)) (same_Some (announce_reply s ticks) r told)
       (λ sized. inr (sized.parts.1.0, expiries-are s.marks s.queues (due (s.time + ticks) s.arms) s.admissions kept.queues (due-all decls (s.time + ticks) s.arms kept.arms) kept.admissions sized.expiries))

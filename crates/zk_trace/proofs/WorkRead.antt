@@ -59,6 +59,7 @@ module _ (decls : List Decl) (are : AreNames decls) where
   there (ops.DrainStart queue plug) fits = two-there (queue_exact decls are) plug_exact ops.DrainStart queue plug fits tt
   there (ops.DrainDone place) fits = one-there wide_exact ops.DrainDone place fits
   there (ops.Unplug queue) fits = one-there (queue_exact decls are) ops.Unplug queue fits
+  there (ops.Stop queue) fits = one-there (queue_exact decls are) ops.Stop queue fits
   there (ops.Announce ticks) fits = one-there narrow_exact ops.Announce ticks fits
   there (ops.Begin queue) fits = one-there (queue_exact decls are) ops.Begin queue fits
   there (ops.End queue) fits = one-there (queue_exact decls are) ops.End queue fits
@@ -81,6 +82,7 @@ module _ (decls : List Decl) (are : AreNames decls) where
   says verbs.DrainStart = two-says (queue_exact decls are) plug_exact ops.DrainStart (Says verbs.DrainStart) (λ queue plug fits any. (refl, refl, fits))
   says verbs.DrainDone = one-says wide_exact ops.DrainDone (Says verbs.DrainDone) (λ place fits. (refl, refl, fits))
   says verbs.Unplug = one-says (queue_exact decls are) ops.Unplug (Says verbs.Unplug) (λ queue fits. (refl, refl, fits))
+  says verbs.Stop = one-says (queue_exact decls are) ops.Stop (Says verbs.Stop) (λ queue fits. (refl, refl, fits))
   says verbs.Announce = one-says narrow_exact ops.Announce (Says verbs.Announce) (λ ticks fits. (refl, refl, fits))
   says verbs.Begin = one-says (queue_exact decls are) ops.Begin (Says verbs.Begin) (λ queue fits. (refl, refl, fits))
   says verbs.End = one-says (queue_exact decls are) ops.End (Says verbs.End) (λ queue fits. (refl, refl, fits))

@@ -24,7 +24,7 @@ use Rattle.zk_model_work.specs.Lists.{first}
 use Rattle.zk_model_work.specs.Machine.{submit, submission_in, submit_arms, with_life, set_life, begin, end_one, end_run, drop_one, drop_waiting, disarm_one, disarm, arm, expire_one, expire, cancel, flush_start, delayed, is_pending_in, schedule, announce, changed, work_next}
 use Rattle.zk_model_work.specs.Questions.{runs_on, waits_as, arms_item, line, is_due, due, live_arm, is_empty_and_idle, item_of}
 use Rattle.zk_model_work.specs.State.{State}
-use Rattle.zk_model_work.proofs.Counts.{length-settle_from, length-change, length-drain}
+use Rattle.zk_model_work.proofs.Counts.{length-settle_from, length-change, length-drain, length-stop}
 use Rattle.zk_model_work.proofs.Overlaps.{submission-within}
 use Rattle.zk_trace.specs.Fields.{IsItem, IsQueue}
 use Rattle.zk_trace.specs.WorkRead.{FitsOp}
@@ -168,6 +168,7 @@ module _ (decls : List Decl) where
       record { admissions = kept.admissions; arms = kept.arms; queues = length-drain (is_empty_and_idle s.admissions queue) plug s.queues queue ∙ kept.queues }
   changed-keeps s who (ops.DrainDone place) kept fits = record { admissions = kept.admissions; arms = kept.arms; queues = kept.queues }
   changed-keeps s who (ops.Unplug queue) kept fits = record { admissions = kept.admissions; arms = kept.arms; queues = length-change changes.Unplug s.queues queue ∙ kept.queues }
+  changed-keeps s who (ops.Stop queue) kept fits = record { admissions = kept.admissions; arms = kept.arms; queues = length-stop (is_empty_and_idle s.admissions queue) s.queues queue ∙ kept.queues }
   changed-keeps s who (ops.Announce ticks) kept fits = announce-keeps s ticks kept
   changed-keeps s who (ops.Begin queue) kept fits = record { admissions = begin-all s.admissions queue kept.admissions; arms = kept.arms; queues = kept.queues }
   changed-keeps s who (ops.End queue) kept fits = record {

@@ -1,10 +1,13 @@
-use Rattle.std.specs.Prelude.{ℕ, ◌^◌, ◌<◌, ◌≡◌, Bool, true, Option, ◌⊎◌, List, [], ◌∷◌, option_map, option_and_then, decimal}
+use Rattle.std.specs.Prelude.{ℕ, ◌^◌, ◌<◌, ◌≡◌, Bool, true, Option, Some, None, ◌⊎◌, List, [], ◌∷◌, option_map, option_and_then, decimal}
 use Rattle.std.specs.Option.{option_or}
 use Rattle.zk_base.specs.declared.errors.Errno.{Errno}
 use Rattle.zk_base.specs.declared.errors.Errno.TheVariants.{Busy, Again, Inval, NoDev, NoMsg, Already, Fault}
 use Rattle.zk_words.specs.declared.word.Word.{Word}
 use Rattle.zk_words.specs.declared.word.Word.TheVariants as words
+use Rattle.zk_words.specs.declared.word.Head.{Head}
+use Rattle.zk_words.specs.declared.word.Head.TheVariants.{Call}
 use Rattle.zk_words.specs.Hex.{msg_of}
+use Rattle.zk_words.specs.Lines.{head_of}
 use Rattle.zk_words.specs.Pieces.{words_of}
 use Rattle.zk_line.specs.declared.types.Decl.{Decl}
 use Rattle.zk_line.specs.Objects.{is_chan}
@@ -18,20 +21,14 @@ use Rattle.zk_trace.specs.Parts.{part_word, answer_part}
 use Rattle.zk_trace.specs.Sides.{sides_row, pair, kept, said_by_sides}
 use Rattle.zk_trace.specs.Words.{errno_word, call_word}
 
--- all calls
-abbrev pub all_calls : List Word
-all_calls =
-    words.Submit ∷ words.Cancel ∷ words.CancelSync ∷ words.Flush ∷ words.Schedule ∷ words.Reschedule ∷ words.Remaining
-    ∷ words.Busy ∷ words.Start ∷ words.Drain ∷ words.Unplug ∷ words.Tick
-    ∷ words.Take ∷ words.Give ∷ words.Reset ∷ words.Count
-    ∷ words.Put ∷ words.Get ∷ words.Peek ∷ words.PeekAt ∷ words.Purge ∷ words.Used ∷ words.Free
-    ∷ words.Raise ∷ words.Clear ∷ words.Check ∷ words.Poll
-    ∷ words.Claim ∷ words.Finish ∷ words.Publish ∷ words.Notify ∷ words.Read ∷ words.Mask ∷ words.Enable ∷ words.SubWait
-    ∷ words.Grant ∷ words.Release ∷ words.Revoke ∷ words.Public ∷ words.Init ∷ words.User ∷ []
+-- the call of a line's head, where it is one
+abbrev pub call_in : Head → Option Word
+call_in (Call word) = Some word
+call_in head = None
 
 -- a call, as it is spelled in a scenario
 abbrev pub call_of : List ℕ → Option Word
-call_of word = named call_word all_calls word
+call_of word = option_and_then call_in (head_of word)
 
 -- with what a call can be refused
 abbrev pub refusals : Word → List Errno
@@ -40,6 +37,7 @@ refusals words.Schedule = Busy ∷ NoDev ∷ []
 refusals words.Reschedule = Busy ∷ NoDev ∷ []
 refusals words.Start = Already ∷ []
 refusals words.Unplug = Already ∷ []
+refusals words.Stop = Already ∷ Busy ∷ []
 refusals words.Take = Busy ∷ Again ∷ []
 refusals words.Put = NoMsg ∷ Again ∷ []
 refusals words.Get = NoMsg ∷ Again ∷ []

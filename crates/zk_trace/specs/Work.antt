@@ -1,5 +1,6 @@
 use Rattle.std.specs.Prelude.{ℕ, List, [], ◌∷◌, ◌++◌, map, codes}
 use Rattle.std.specs.List.{join_with_byte}
+use Rattle.zk_base.specs.declared.errors.Errno.TheVariants.{Busy}
 use Rattle.zk_words.specs.Bytes.{colon}
 use Rattle.zk_line.specs.declared.types.Decl.{Decl}
 use Rattle.zk_model_work.specs.declared.ops.WorkOp.{WorkOp}
@@ -32,6 +33,7 @@ verb_word verbs.Start = codes "start"
 verb_word verbs.DrainStart = codes "drainstart"
 verb_word verbs.DrainDone = codes "draindone"
 verb_word verbs.Unplug = codes "unplug"
+verb_word verbs.Stop = codes "stop"
 verb_word verbs.Announce = codes "announce"
 verb_word verbs.Begin = codes "begin"
 verb_word verbs.End = codes "end"
@@ -53,6 +55,7 @@ said_of (ops.Start queue) = (verbs.Start, Queue queue ∷ [])
 said_of (ops.DrainStart queue plug) = (verbs.DrainStart, Queue queue ∷ Plug plug ∷ [])
 said_of (ops.DrainDone place) = (verbs.DrainDone, Place place ∷ [])
 said_of (ops.Unplug queue) = (verbs.Unplug, Queue queue ∷ [])
+said_of (ops.Stop queue) = (verbs.Stop, Queue queue ∷ [])
 said_of (ops.Announce ticks) = (verbs.Announce, Narrow ticks ∷ [])
 said_of (ops.Begin queue) = (verbs.Begin, Queue queue ∷ [])
 said_of (ops.End queue) = (verbs.End, Queue queue ∷ [])
@@ -88,6 +91,7 @@ reply_parts (replies.WaitFor admission) = Fixed Wait ∷ Admission admission ∷
 reply_parts (replies.Number number) = Wide number ∷ []
 reply_parts replies.Done = Fixed Done ∷ []
 reply_parts replies.Already = Fixed Already ∷ []
+reply_parts replies.Busy = Refusal Busy ∷ []
 reply_parts (replies.Now time expiries) = Fixed Now ∷ Wide time ∷ []
 reply_parts (replies.Run item admission) = Item item ∷ Admission admission ∷ []
 

@@ -27,7 +27,7 @@ abbrev pub all_verbs : List Verb
 all_verbs =
     verbs.Submit ∷ verbs.Cancel ∷ verbs.CancelStart ∷ verbs.CancelDone ∷ verbs.FlushStart ∷ verbs.FlushDone
     ∷ verbs.Schedule ∷ verbs.Reschedule ∷ verbs.Remaining ∷ verbs.Start ∷ verbs.DrainStart ∷ verbs.DrainDone
-    ∷ verbs.Unplug ∷ verbs.Announce ∷ verbs.Begin ∷ verbs.End ∷ []
+    ∷ verbs.Unplug ∷ verbs.Stop ∷ verbs.Announce ∷ verbs.Begin ∷ verbs.End ∷ []
 
 -- the verb of a word
 abbrev pub verb_of : List ℕ → Option Verb
@@ -48,6 +48,7 @@ op_behind decls verbs.Start words = one ops.Start (queue_of decls) words
 op_behind decls verbs.DrainStart words = two ops.DrainStart (queue_of decls) plug_of words
 op_behind decls verbs.DrainDone words = one ops.DrainDone wide_of words
 op_behind decls verbs.Unplug words = one ops.Unplug (queue_of decls) words
+op_behind decls verbs.Stop words = one ops.Stop (queue_of decls) words
 op_behind decls verbs.Announce words = one ops.Announce narrow_of words
 op_behind decls verbs.Begin words = one ops.Begin (queue_of decls) words
 op_behind decls verbs.End words = one ops.End (queue_of decls) words
@@ -71,6 +72,7 @@ FitsOp decls (ops.Start queue) = IsQueue decls queue
 FitsOp decls (ops.DrainStart queue plug) = IsQueue decls queue
 FitsOp decls (ops.DrainDone place) = place < 2 ^ 64
 FitsOp decls (ops.Unplug queue) = IsQueue decls queue
+FitsOp decls (ops.Stop queue) = IsQueue decls queue
 FitsOp decls (ops.Announce ticks) = ticks < 2 ^ 32
 FitsOp decls (ops.Begin queue) = IsQueue decls queue
 FitsOp decls (ops.End queue) = IsQueue decls queue
@@ -156,6 +158,7 @@ fixed_replies verbs.Reschedule =
 fixed_replies verbs.Start = replies.Done ∷ replies.Already ∷ []
 fixed_replies verbs.DrainStart = replies.Wait ∷ []
 fixed_replies verbs.Unplug = replies.Done ∷ replies.Already ∷ []
+fixed_replies verbs.Stop = replies.Done ∷ replies.Already ∷ replies.Busy ∷ []
 fixed_replies verbs.End = replies.Done ∷ []
 fixed_replies verb = []
 

@@ -1,11 +1,9 @@
 ghost use Rattle.std.specs.Prelude.{◌≡◌, option_map, option_and_then};
-ghost use Rattle.std.specs.Str.{bytes_eq};
 ghost use Rattle.zk_trace.specs.AnswerRead.{call_of, refusals, refusal_of, can_be_value, value_words_of, signal_value, value_of, answer_of, answered_front_of, answered_of};
 ghost use Rattle.zk_trace.specs.Fields.{named};
 ghost use Rattle.zk_trace.specs.Sides.{kept};
-ghost use Rattle.zk_trace.specs.Words.{errno_word, call_word};
+ghost use Rattle.zk_trace.specs.Words.{errno_word};
 
-use crate::choosing::first_of;
 use crate::flags::flags_of;
 use crate::halves::sides_of;
 use crate::look_read::{can_be, raised_of};
@@ -14,67 +12,20 @@ use crate::messages::message_of;
 use crate::numerals::{narrow_of, short_of, wide_of};
 use crate::row_words::{oops_of, ready_of, two_words};
 use crate::set_words::truth_of;
-use crate::words::{call_word, errno_word};
+use crate::words::errno_word;
 use zk_base::Errno;
 use zk_scenario::Scenario;
-use zk_words::{Word, Words, is_same};
+use zk_words::{Head, Word, Words, head_of, is_same};
 use zk_worker::{Answer, Answered};
 
-/// A call, as it is spelled in a scenario. The compiler makes of each a comparison with the table's own text.
+/// A call, as it is spelled in a scenario.
 fn call_of(word: &[u8]) -> Option<Word>
     ensures { result ≡ call_of word.now }
 {
-    first_of!(
-        is_spelled,
-        word;
-        Word::Submit,
-        Word::Cancel,
-        Word::CancelSync,
-        Word::Flush,
-        Word::Schedule,
-        Word::Reschedule,
-        Word::Remaining,
-        Word::Busy,
-        Word::Start,
-        Word::Drain,
-        Word::Unplug,
-        Word::Tick,
-        Word::Take,
-        Word::Give,
-        Word::Reset,
-        Word::Count,
-        Word::Put,
-        Word::Get,
-        Word::Peek,
-        Word::PeekAt,
-        Word::Purge,
-        Word::Used,
-        Word::Free,
-        Word::Raise,
-        Word::Clear,
-        Word::Check,
-        Word::Poll,
-        Word::Claim,
-        Word::Finish,
-        Word::Publish,
-        Word::Notify,
-        Word::Read,
-        Word::Mask,
-        Word::Enable,
-        Word::SubWait,
-        Word::Grant,
-        Word::Release,
-        Word::Revoke,
-        Word::Public,
-        Word::Init,
-        Word::User
-    )
-}
-
-fn is_spelled(call: Word, word: &[u8]) -> bool
-    ensures { result ≡ bytes_eq word.now (call_word call) }
-{
-    is_same(word, call_word(call))
+    match head_of(word)? {
+        Head::Call(call) => Some(call),
+        _ => None,
+    }
 }
 
 /// With what a call can be refused.
@@ -87,6 +38,7 @@ fn refusals(word: Word) -> &'static [Errno]
         Word::Reschedule => &[Errno::Busy, Errno::NoDev],
         Word::Start => &[Errno::Already],
         Word::Unplug => &[Errno::Already],
+        Word::Stop => &[Errno::Already, Errno::Busy],
         Word::Take => &[Errno::Busy, Errno::Again],
         Word::Put => &[Errno::NoMsg, Errno::Again],
         Word::Get => &[Errno::NoMsg, Errno::Again],

@@ -8,7 +8,7 @@ ghost use Rattle.std.specs.List.{AllByRecursion};
 use crate::parts::{FixedWord, Part, PartList, put_part, put_parts, put_said};
 use crate::sizes::{Sizes, all_sizes};
 use crate::spelled::Spelled;
-use zk_base::NoMemory;
+use zk_base::{Errno, NoMemory};
 use zk_model_work::{Expiry, Submitted, WorkOp, WorkReply};
 use zk_paper::Paper;
 use zk_scenario::Scenario;
@@ -45,6 +45,8 @@ pub enum Verb {
     DrainDone,
     /// Of `WorkOp::Unplug`.
     Unplug,
+    /// Of `WorkOp::Stop`.
+    Stop,
     /// Of `WorkOp::Announce`.
     Announce,
     /// Of `WorkOp::Begin`.
@@ -71,6 +73,7 @@ pub fn verb_word(verb: Verb) -> &'static [u8]
         Verb::DrainStart => b"drainstart",
         Verb::DrainDone => b"draindone",
         Verb::Unplug => b"unplug",
+        Verb::Stop => b"stop",
         Verb::Announce => b"announce",
         Verb::Begin => b"begin",
         Verb::End => b"end",
@@ -107,6 +110,7 @@ pub fn said_of(op: WorkOp) -> (Verb, PartList<'static>)
         ),
         WorkOp::DrainDone(place) => (Verb::DrainDone, PartList::one(Part::Place(place))),
         WorkOp::Unplug(queue) => (Verb::Unplug, PartList::one(Part::Queue(queue))),
+        WorkOp::Stop(queue) => (Verb::Stop, PartList::one(Part::Queue(queue))),
         WorkOp::Announce(ticks) => (Verb::Announce, PartList::one(Part::Narrow(ticks))),
         WorkOp::Begin(queue) => (Verb::Begin, PartList::one(Part::Queue(queue))),
         WorkOp::End(queue) => (Verb::End, PartList::one(Part::Queue(queue))),
@@ -152,6 +156,7 @@ pub fn reply_parts(reply: &WorkReply) -> PartList<'static>
         WorkReply::Number(number) => PartList::one(Part::Wide(*number)),
         WorkReply::Done => PartList::one(Part::Fixed(FixedWord::Done)),
         WorkReply::Already => PartList::one(Part::Fixed(FixedWord::Already)),
+        WorkReply::Busy => PartList::one(Part::Refusal(Errno::Busy)),
         WorkReply::Now(time, _) => PartList::two(Part::Fixed(FixedWord::Now), Part::Wide(*time)),
         WorkReply::Run(item, admission) => PartList::two(
             Part::Item(*item),

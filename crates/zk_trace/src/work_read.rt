@@ -23,7 +23,7 @@ use zk_scenario::Scenario;
 use zk_words::{Words, is_same};
 
 /// All verbs.
-const VERBS: [Verb; 16] = [
+const VERBS: [Verb; 17] = [
     Verb::Submit,
     Verb::Cancel,
     Verb::CancelStart,
@@ -37,6 +37,7 @@ const VERBS: [Verb; 16] = [
     Verb::DrainStart,
     Verb::DrainDone,
     Verb::Unplug,
+    Verb::Stop,
     Verb::Announce,
     Verb::Begin,
     Verb::End,
@@ -89,6 +90,7 @@ fn op_behind(scenario: &Scenario, verb: Verb, words: Words<'_>) -> Option<WorkOp
         }
         Verb::DrainDone => Some(WorkOp::DrainDone(wide_of(one_word(words)?)?)),
         Verb::Unplug => Some(WorkOp::Unplug(queue_of(scenario, one_word(words)?)?)),
+        Verb::Stop => Some(WorkOp::Stop(queue_of(scenario, one_word(words)?)?)),
         Verb::Announce => Some(WorkOp::Announce(narrow_of(one_word(words)?)?)),
         Verb::Begin => Some(WorkOp::Begin(queue_of(scenario, one_word(words)?)?)),
         Verb::End => Some(WorkOp::End(queue_of(scenario, one_word(words)?)?)),
@@ -130,6 +132,7 @@ pub fn reply_of(
         Verb::DrainStart => Ok(drain_start_reply(scenario, row)),
         Verb::DrainDone => Ok(number_of(row)),
         Verb::Unplug => Ok(switch_reply(scenario, row)),
+        Verb::Stop => Ok(stop_reply(scenario, row)),
         Verb::Announce => announce_reply(alloc, scenario, row),
         Verb::Begin => Ok(begin_reply(scenario, row)),
         Verb::End => Ok(end_reply(scenario, row)),
@@ -225,6 +228,17 @@ fn switch_reply(scenario: &Scenario, row: &[u8]) -> Option<WorkReply>
     ensures unplug { result ≡ reply_of scenario.now.decls Verb.Unplug row.now }
 {
     first_of!(is_written, row; WorkReply::Done, WorkReply::Already)
+}
+
+fn stop_reply(scenario: &Scenario, row: &[u8]) -> Option<WorkReply>
+    ensures { result ≡ reply_of scenario.now.decls Verb.Stop row.now }
+{
+    first_of!(
+        is_written, row;
+        WorkReply::Done,
+        WorkReply::Already,
+        WorkReply::Busy
+    )
 }
 
 fn drain_start_reply(scenario: &Scenario, row: &[u8]) -> Option<WorkReply>

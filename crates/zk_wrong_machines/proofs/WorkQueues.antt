@@ -1,11 +1,12 @@
 -- Wrong work services, with two queues and two items. Of each a short history that it lets stand, and the law that is false of it.
-use Rattle.std.proofs.Common.{◌≡◌, refl, arith, ⊎_elim}
+use Rattle.std.proofs.Common.{◌≡◌, refl, ap, arith, ⊎_elim}
+use Rattle.std.specs.Option.{option_map_or}
 use Rattle.std.specs.Prelude.{suc, ◌≤◌, ◌<◌, true, false, Option, Some, None, [], ◌∷◌}
 use Rattle.zk_base.specs.declared.ids.Who.{Who}
 use Rattle.zk_base.specs.History.{entry}
 use Rattle.zk_base.specs.Legal.{Machine, Replays}
 use Rattle.zk_model_work.specs.declared.ops.WorkOp.{WorkOp}
-use Rattle.zk_model_work.specs.declared.ops.WorkOp.TheVariants.{Submit, Cancel, CancelStart, CancelDone, FlushStart, Start, DrainStart, DrainDone, Begin}
+use Rattle.zk_model_work.specs.declared.ops.WorkOp.TheVariants.{Submit, Cancel, CancelStart, CancelDone, FlushStart, Start, DrainStart, DrainDone, Stop, Begin}
 use Rattle.zk_model_work.specs.declared.ops.Submitted.TheVariants.{Fresh, Rerun}
 use Rattle.zk_model_work.specs.declared.ops.WorkReply.{WorkReply}
 use Rattle.zk_model_work.specs.declared.ops.WorkReply.TheVariants as replies
@@ -13,10 +14,11 @@ use Rattle.zk_model_work.specs.declared.parts.Life.{Life}
 use Rattle.zk_model_work.specs.declared.parts.Life.TheVariants.{Running, Ended, Waiting}
 use Rattle.zk_model_work.specs.declared.parts.Admission.{Admission}
 use Rattle.zk_model_work.specs.declared.parts.Queue.{Queue}
-use Rattle.zk_model_work.specs.Machine.{work_machine, work_reply, flags_of}
+use Rattle.zk_model_work.specs.declared.parts.Change.TheVariants as changes
+use Rattle.zk_model_work.specs.Machine.{change, work_machine, work_reply, work_next, flags_of}
 use Rattle.zk_model_work.specs.State.{State, start_of}
 use Rattle.zk_model_work.specs.Histories.{WorkEntry, WorkHistory}
-use Rattle.zk_model_work.specs.Laws.{CancelTellsTheRun, AnsweredIsMade, FlushWaitsForNewest, NoneWaitsBefore, CancelDoneAfterRun, DrainDoneAfterItsEnd, StartTells}
+use Rattle.zk_model_work.specs.Laws.{CancelTellsTheRun, AnsweredIsMade, FlushWaitsForNewest, NoneWaitsBefore, CancelDoneAfterRun, DrainDoneAfterItsEnd, StartTells, StopTells}
 use Rattle.zk_wrong_machines.proofs.Players.{one, other, worker}
 
 -- two items and two queues, both started; their workers are the players behind the two threads
@@ -82,12 +84,16 @@ rerun = entry one 1 (Submit 0 (Some 1)) (replies.Sub (Rerun 1 1))
 pub rerun_on_the_named_queue-replays : Replays (replying reply_named) start (submitted ∷ begun ∷ rerun ∷ [])
 rerun_on_the_named_queue-replays = (refl, (refl, (refl, tt)))
 
+-- an admission to the one queue is none to the other
+queues_differ : ◌≡◌ {A = Option Admission} (Some (record { item = 0; queue = 0; life = Waiting }))
+    (Some (record { item = 0; queue = 1; life = Waiting })) → ⊥
+queues_differ is =
+    let same : 0 ≡ 1 = ap (λ (o : Option Admission). option_map_or (λ (a : Admission). a.queue) o 0) is in
+    omega (arith, same)
+
 pub rerun_on_the_named_queue-refused : AnsweredIsMade start (submitted ∷ begun ∷ rerun ∷ []) → ⊥
 rerun_on_the_named_queue-refused so =
-    let made = so.each (submitted ∷ begun ∷ []) [] rerun refl 0 (Rerun 1 1) (refl, refl) in
-    let is : ◌≡◌ {A = Option Admission} (Some (record { item = 0; queue = 0; life = Waiting }))
-    (Some (record { item = 0; queue = 1; life = Waiting })) = made.0.1 in
-    cc is
+    queues_differ (so.each (submitted ∷ begun ∷ []) [] rerun refl 0 (Rerun 1 1) (refl, refl)).0.1
 
 -- a flush that waits for the run, though one is admitted behind it
 abbrev pub reply_for_the_run : State → Who → WorkOp → Option WorkReply
@@ -192,4 +198,55 @@ pub start_is_always_done-refused : StartTells start (started_again ∷ []) → �
 start_is_always_done-refused tells =
     let q : Queue = record { worker = 2; started = true; draining = false; plugged = false; drained = 0 } in
     let is : ◌≡◌ {A = WorkReply} replies.Done replies.Already = (tells.each [] [] started_again refl 0 q refl).0 refl in
+    cc is
+
+-- a stop that takes the plug too
+abbrev pub next_unplugged : State → Who → WorkOp → State
+next_unplugged s who (Stop queue) =
+    let t = work_next s who (Stop queue) in record t { queues = change changes.Unplug t.queues queue }
+next_unplugged s who op = work_next s who op
+
+abbrev pub unplugging : Machine State WorkOp WorkReply
+unplugging = record work_machine { next = next_unplugged }
+
+abbrev pub plugged : WorkEntry
+plugged = entry one 0 (DrainStart 0 true) (replies.Number 0)
+
+abbrev pub stopped : WorkEntry
+stopped = entry one 1 (Stop 0) replies.Done
+
+abbrev pub restarted : WorkEntry
+restarted = entry one 2 (Start 0) replies.Done
+
+abbrev pub let_past : WorkEntry
+let_past = entry one 3 (Submit 0 (Some 0)) (replies.Sub (Fresh 0 0))
+
+pub stop_forgets_the_plug-replays : Replays unplugging start (plugged ∷ stopped ∷ restarted ∷ let_past ∷ [])
+stop_forgets_the_plug-replays = (refl, (refl, (refl, (refl, tt))))
+
+pub stop_forgets_the_plug-refused : AnsweredIsMade start (plugged ∷ stopped ∷ restarted ∷ let_past ∷ []) → ⊥
+stop_forgets_the_plug-refused so =
+    let made = so.each (plugged ∷ stopped ∷ restarted ∷ []) [] let_past refl 0 (Fresh 0 0) (refl, refl) in
+    let is : ◌≡◌ {A = Option Admission} None (Some (record { item = 0; queue = 0; life = Waiting })) = made.0.1 in
+    cc is
+
+-- a stop of a queue that could run something, since it drains still
+abbrev pub reply_stopped : State → Who → WorkOp → Option WorkReply
+reply_stopped s who (Stop queue) = Some replies.Done
+reply_stopped s who op = work_reply s who op
+
+abbrev pub plugging : WorkEntry
+plugging = entry one 1 (DrainStart 0 true) replies.Wait
+
+abbrev pub stopped_early : WorkEntry
+stopped_early = entry one 2 (Stop 0) replies.Done
+
+pub stops_a_busy_queue-replays : Replays (replying reply_stopped) start (submitted ∷ plugging ∷ stopped_early ∷ [])
+stops_a_busy_queue-replays = (refl, (refl, (refl, tt)))
+
+pub stops_a_busy_queue-refused : StopTells start (submitted ∷ plugging ∷ stopped_early ∷ []) → ⊥
+stops_a_busy_queue-refused tells =
+    let q : Queue = record { worker = 2; started = true; draining = true; plugged = true; drained = 0 } in
+    let is : ◌≡◌ {A = WorkReply} replies.Done replies.Busy =
+    tells.each (submitted ∷ plugging ∷ []) [] stopped_early refl 0 q refl refl in
     cc is
