@@ -1,3 +1,4 @@
+-- Inner: no contract of a top call is made of this file.
 use Rattle.std.specs.Prelude.{ℕ, List}
 
 -- a source over memory: the bytes left, the most that one call gives, the calls that fail, the calls so far, and its faults

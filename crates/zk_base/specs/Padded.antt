@@ -1,3 +1,4 @@
+-- Inner: no contract of a top call is made of this file.
 use Rattle.std.specs.Prelude.{◌≡◌, ℕ, ◌-◌, ◌≤◌, Bool, true, List, ◌++◌, length, take, drop, replicate}
 
 -- bytes with zeros behind them up to a width

@@ -1,3 +1,4 @@
+-- Inner: no contract of a top call is made of this file.
 -- Bytes of a bounded length that are kept in place, with zeros behind them.
 use Rattle.std.proofs.Common.{◌≡◌, ℕ, ◌+◌, ◌-◌, ◌≤◌, Bool, true, not, nat_lt, nat_le, ◌&&◌, length-append, List, [], ◌∷◌, ◌++◌, length, take, drop, replicate, sym, ap, ◌∙◌, subst, arith}
 use Rattle.std.proofs.lemmas.List.{length-take-le, take-append-drop, drop-replicate, length-replicate}

@@ -1,3 +1,4 @@
+-- Inner: no contract of a top call is made of this file.
 use Rattle.std.specs.Prelude.{◌≡◌, Option, Some}
 
 -- what has a text is read from it again; and what is read has that text, and fits

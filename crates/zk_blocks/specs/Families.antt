@@ -1,3 +1,4 @@
+-- Inner: no contract of a top call is made of this file.
 use Rattle.std.specs.Prelude.{Bool, Option, None, List, [], ◌∷◌, map, if◌then◌else◌}
 use Rattle.zk_blocks.specs.Blocks.{Reading, given_of, given_lines, FitsGiven}
 use Rattle.zk_blocks.specs.Each.{each_of, each_lines, EachFits}

@@ -1,3 +1,4 @@
+-- Inner: no contract of a top call is made of this file.
 use Rattle.std.specs.Prelude.{◌≡◌, ◌⊎◌, Bool, Decides, List, [], ◌∷◌}
 
 -- the line is this head, or of the sort behind its section

@@ -1,3 +1,4 @@
+-- Inner: no contract of a top call is made of this file.
 use Rattle.std.specs.Prelude.{◌≡◌, Bool, true, false, Option, Some, None, List, [], ◌∷◌, map, if◌then◌else◌}
 use Rattle.zk_blocks.specs.Blocks.{Reading, line_of, then_of, then_lines, FitsThen, kept_of}
 use Rattle.zk_blocks.specs.Rows.{all_rows, AllFit}

@@ -1,3 +1,4 @@
+-- Inner: no contract of a top call is made of this file.
 -- Services that were taken out of their cells.
 use Rattle.std.specs.Prelude.{◌≡◌, ◌≤◌, ◌<◌, ◌*◌, ℕ, suc, true, map, length, Option, Some, None, List, [], ◌∷◌, All}
 use Rattle.zk_base.specs.declared.ids.Who.{Who}

@@ -1,3 +1,4 @@
+-- Inner: no contract of a top call is made of this file.
 -- New passes: those that no caller has yet, and those that a caller gets of them.
 use Rattle.std.specs.Prelude.{◌≡◌, ◌≤◌, Option, Some, None, List, [], ◌∷◌, ◌++◌, Vec, All, map, vec_capacity}
 use Rattle.std.specs.declared.alloc.Global.{Global}

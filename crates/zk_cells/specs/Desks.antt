@@ -1,3 +1,4 @@
+-- Inner: no contract of a top call is made of this file.
 -- A caller at the cells of a kernel, as the services that it plays on.
 use Rattle.std.specs.Prelude.{ℕ, ◌-◌, ◌^◌, ◌<◌, ◌≤◌, min, Some, vec_capacity}
 use Rattle.zk_base.specs.declared.ids.Who.{Who}

@@ -1,3 +1,4 @@
+-- Inner: no contract of a top call is made of this file.
 -- Passes that are put together.
 use Rattle.std.specs.Prelude.{◌≡◌, ℕ, suc, Option, Some, None, List, [], ◌∷◌, map}
 use Rattle.std.specs.List.{AllZip}

@@ -1,3 +1,4 @@
+-- Inner: no contract of a top call is made of this file.
 -- A kernel: the services of a scenario, each in its cell, and the signals, which are shared without one.
 use Rattle.std.specs.Prelude.{◌≡◌, ◌<◌, ℕ, length, Option, Some, None, All}
 use Rattle.zk_scenario.specs.Content.{Content}

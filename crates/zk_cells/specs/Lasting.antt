@@ -1,3 +1,4 @@
+-- Inner: no contract of a top call is made of this file.
 -- What is shown in the end, beside what was shown to a caller: signals and the looks at them are shown to it alone until then.
 use Rattle.std.specs.Prelude.{◌≡◌, ℕ, ◌≤◌, false, Option, Some, None, List, length, slice_get, All}
 use Rattle.zk_base.specs.declared.seen.Seen.{Seen}

@@ -1,3 +1,4 @@
+-- Inner: no contract of a top call is made of this file.
 -- A caller's writes at signals, and what is shown of a signal at which others write too.
 use Rattle.std.specs.Prelude.{◌==◌, ℕ, zero, suc, ◌^◌, if◌then◌else◌, List, [], ◌∷◌, ◌++◌, map, pos}
 use Rattle.std.specs.List.{filter}

@@ -1,3 +1,4 @@
+-- Inner: no contract of a top call is made of this file.
 -- Steps that take no turn: writes and looks at signals, and looks at items.
 use Rattle.std.specs.Prelude.{◌≡◌, Bool, true, false, Some, List, [], ◌∷◌, ◌++◌}
 use Rattle.zk_base.specs.declared.seen.Seen.{Seen}

@@ -1,3 +1,4 @@
+-- Inner: no contract of a top call is made of this file.
 -- The cells of the objects of a kind, by object number, and a caller's passes of them.
 use Rattle.std.specs.Prelude.{◌≡◌, ℕ, Bool, false, Option, Some, None, Result, Ok, Err, List, map, slice_get, option_map}
 use Rattle.std.specs.List.{AllZip}

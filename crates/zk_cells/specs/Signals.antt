@@ -1,3 +1,4 @@
+-- Inner: no contract of a top call is made of this file.
 -- A caller's passes of the signals, by object number, and what they show.
 use Rattle.std.specs.Prelude.{◌≡◌, ℕ, suc, ◌+◌, ◌-◌, ◌<◌, ◌≤◌, Option, Some, None, List, [], ◌∷◌, ◌++◌, length, map, set, slice_get, option_map, All}
 use Rattle.std.specs.Option.{option_map_or}

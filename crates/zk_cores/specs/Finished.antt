@@ -1,3 +1,4 @@
+-- Inner: no contract of a top call is made of this file.
 -- What a kernel has left, played on.
 use Rattle.std.specs.Prelude.{◌≡◌, ◌<◌, ℕ, Bool, true, false, Some, None, slice_get}
 use Rattle.zk_scenario.specs.Content.{Content}

@@ -1,3 +1,4 @@
+-- Inner: no contract of a top call is made of this file.
 -- The callers of a kernel in a pool, and the cores that play them.
 use Rattle.std.specs.Prelude.{◌≡◌, ℕ, zero, suc, ◌+◌, List, [], ◌∷◌}
 use Rattle.zk_kernel.specs.declared.caller.Caller.{Caller}

@@ -1,3 +1,4 @@
+-- Inner: no contract of a top call is made of this file.
 use Rattle.std.specs.Prelude.{◌≡◌, ℕ, Bool, true, false, None, Some, List, slice_get, length}
 use Rattle.zk_scenario.specs.Content.{Content}
 use Rattle.zk_worker.specs.declared.steps.Step.{Step}

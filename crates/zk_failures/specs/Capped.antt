@@ -1,3 +1,4 @@
+-- Inner: no contract of a top call is made of this file.
 use Rattle.std.specs.Prelude.{ℕ, ◌-◌, ◌^◌, min}
 
 -- a number, or the greatest of 64 bits where it is greater

@@ -1,3 +1,4 @@
+-- Inner: no contract of a top call is made of this file.
 use Rattle.std.specs.Prelude.{◌≡◌, ℕ, ◌+◌, ◌<◌, ◌==◌, nat_le, Bool, true, false, not, ◌&&◌, Option, Some, List, [], ◌∷◌, length, map, take, slice_get, option_and_then, All, MatchOption}
 use Rattle.std.specs.List.{filter}
 use Rattle.std.specs.Option.{option_map_or}

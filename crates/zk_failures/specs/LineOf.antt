@@ -1,3 +1,4 @@
+-- Inner: no contract of a top call is made of this file.
 use Rattle.std.specs.Prelude.{◌≡◌, ℕ, ◌+◌, Option, Some, List, [], ◌∷◌, ◌++◌, length, map, option_map, option_and_then, slice_get}
 use Rattle.std.specs.List.{flat_map}
 use Rattle.zk_base.specs.declared.ids.Entry.{Entry}

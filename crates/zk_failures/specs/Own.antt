@@ -1,3 +1,4 @@
+-- Inner: no contract of a top call is made of this file.
 use Rattle.std.specs.Prelude.{◌≡◌, ℕ, Bool, true, ◌==◌, nat_lt, ◌||◌, Some, List, slice_get, count_by}
 use Rattle.std.specs.HashSet as sets
 use Rattle.std.specs.List.{list_any}

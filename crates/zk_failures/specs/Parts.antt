@@ -1,3 +1,4 @@
+-- Inner: no contract of a top call is made of this file.
 use Rattle.std.specs.Prelude.{◌≡◌, ℕ, ◌<◌, true, Some, List, slice_get}
 use Rattle.zk_worker.specs.declared.steps.Spot.{Spot}
 use Rattle.zk_worker.specs.declared.steps.Spot.TheVariants as spots

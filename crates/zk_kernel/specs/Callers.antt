@@ -1,3 +1,4 @@
+-- Inner: no contract of a top call is made of this file.
 -- A player with its passes of a kernel.
 use Rattle.std.specs.Prelude.{Bool, ◌&&◌, not, Option, Some, None, Result, Ok, []}
 use Rattle.zk_base.specs.declared.errors.NoMemory.{NoMemory}

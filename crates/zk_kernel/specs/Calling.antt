@@ -1,3 +1,4 @@
+-- Inner: no contract of a top call is made of this file.
 -- A whole call of a caller, by steps of its player.
 use Rattle.std.specs.Prelude.{◌≡◌, ℕ, Bool, true, false, ◌&&◌, ◌||◌, nat_le, nat_lt, is_some, Result, Ok, Err, List, [], ◌∷◌, ◌++◌, length, All}
 use Rattle.zk_line.specs.declared.types.Call.{Call}

@@ -1,3 +1,4 @@
+-- Inner: no contract of a top call is made of this file.
 -- The passes of callers that are put together.
 use Rattle.std.specs.Prelude.{◌≡◌, ℕ, true, false, Option, Some, None, List, [], ◌∷◌, ◌++◌, map, All}
 use Rattle.zk_base.specs.declared.ids.Who.{Who}

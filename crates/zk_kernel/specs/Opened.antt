@@ -1,3 +1,4 @@
+-- Inner: no contract of a top call is made of this file.
 -- A new kernel and its callers.
 use Rattle.std.specs.Prelude.{◌≡◌, ℕ, false, Some, List, [], map, slice_get}
 use Rattle.zk_line.specs.declared.types.Decl.{Decl}

@@ -1,3 +1,4 @@
+-- Inner: no contract of a top call is made of this file.
 -- What is left of a kernel after its callers.
 use Rattle.std.specs.Prelude.{◌≡◌, ℕ, true, Some, List, length, map, slice_get, slice_set, All}
 use Rattle.zk_scenario.specs.Content.{Content}

@@ -1,3 +1,4 @@
+-- Inner: no contract of a top call is made of this file.
 -- A player within a call of its script.
 use Rattle.std.specs.Prelude.{◌≡◌, ◌⊎◌, ℕ, ◌-◌, Bool, true, false, ◌&&◌, ◌||◌, nat_lt, if◌then◌else◌, option_map, Option, Some, None, Result, List, [], ◌∷◌, ◌++◌, length, slice_get, All}
 use Rattle.zk_line.specs.declared.types.Call.{Call}

@@ -1,3 +1,4 @@
+-- Inner: no contract of a top call is made of this file.
 -- The events of a poll are kept in place, with others behind them that ask for nothing.
 use Rattle.std.proofs.Common.{◌≡◌, ℕ, ◌+◌, ◌-◌, ◌≤◌, true, nat_le, length-append, List, ◌++◌, length, take, drop, replicate, sym, ap, ◌∙◌, subst, arith}
 use Rattle.std.proofs.lemmas.List.{length-take-le, take-append-drop, drop-replicate, length-replicate}

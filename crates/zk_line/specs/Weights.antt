@@ -1,3 +1,4 @@
+-- Inner: no contract of a top call is made of this file.
 use Rattle.std.specs.Prelude.{◌≡◌, Bool, true, false, Option, None, Some, Result, Ok, Err}
 use Rattle.zk_line.specs.declared.weights.Wrong.{Wrong}
 use Rattle.zk_line.specs.declared.weights.Wrong.TheVariants.{OutOfRange, Misnamed}

@@ -1,3 +1,4 @@
+-- Inner: no contract of a top call is made of this file.
 use Rattle.std.specs.Prelude.{◌≡◌, ℕ, Bool, false, ◌⊎◌, Some, List, length, slice_get}
 use Rattle.std.specs.Option.{option_map_or}
 use Rattle.zk_model_bus.specs.Table.{Setup, new_table}

@@ -1,3 +1,4 @@
+-- Inner: no contract of a top call is made of this file.
 use Rattle.std.specs.Prelude.{ℕ, ◌^◌, ◌-◌, ◌/◌, ◌%◌, Bool, not, ◌==◌, ◌&&◌, ◌||◌, bit_and, bit_or, nat_lt, List, slice_index}
 use Rattle.std.specs.List.{list_any}
 use Rattle.zk_base.specs.Limits.{most_players}

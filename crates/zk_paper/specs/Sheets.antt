@@ -1,3 +1,4 @@
+-- Inner: no contract of a top call is made of this file.
 use Rattle.std.specs.Prelude.{ℕ, List}
 
 -- a text that goes on: what stood there, and what was put behind it

@@ -1,3 +1,4 @@
+-- Inner: no contract of a top call is made of this file.
 use Rattle.std.specs.Prelude.{◌≡◌, ℕ, ◌+◌, Bool, true, false, not, Option, Some, None, List, [], ◌∷◌, map, count_by, slice_get, option_and_then}
 use Rattle.std.specs.List.{flat_map}
 use Rattle.zk_base.specs.Waits.{Waits}

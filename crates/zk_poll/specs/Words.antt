@@ -1,3 +1,4 @@
+-- Inner: no contract of a top call is made of this file.
 use Rattle.std.specs.Prelude.{ℕ, zero, suc, ◌+◌, if◌then◌else◌}
 use Rattle.zk_base.specs.declared.seen.Seen.{Seen}
 use Rattle.zk_model_wait.specs.Signal.{Signal, signal_seen}

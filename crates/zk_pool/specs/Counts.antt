@@ -1,3 +1,4 @@
+-- Inner: no contract of a top call is made of this file.
 -- How often numbers stand in a list.
 use Rattle.std.specs.Prelude.{ℕ, ◌==◌, List}
 use Rattle.std.specs.List.{count_by}

@@ -1,3 +1,4 @@
+-- Inner: no contract of a top call is made of this file.
 -- What a contract sees of a pool and of a hand.
 use Rattle.std.specs.Prelude.{◌≡◌, ℕ, Option, All, List, [], ◌∷◌, length, map, vec_capacity}
 use Rattle.std.specs.declared.option.Option.TheVariants.{Some, None}

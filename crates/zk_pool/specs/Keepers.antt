@@ -1,3 +1,4 @@
+-- Inner: no contract of a top call is made of this file.
 -- A hand, and the items that its thread keeps.
 use Rattle.std.specs.Prelude.{◌≡◌, ℕ, ◌+◌, ◌<◌, ◌≤◌, All, List, [], ◌∷◌, ◌++◌, length, map, vec_capacity}
 use Rattle.zk_pool.specs.declared.keeper.Keeper.{Keeper}

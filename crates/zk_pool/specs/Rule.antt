@@ -1,3 +1,4 @@
+-- Inner: no contract of a top call is made of this file.
 -- The rule of a pool: what holds of its queue and its passes at every moment.
 use Rattle.std.specs.Prelude.{◌≡◌, ℕ, ◌+◌, ◌<◌, Option, All, List, [], length, map}
 use Rattle.std.specs.List.{sum_by}

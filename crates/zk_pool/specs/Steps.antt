@@ -1,3 +1,4 @@
+-- Inner: no contract of a top call is made of this file.
 -- What each step of the queue tells the pass that makes it.
 use Rattle.std.specs.Prelude.{◌≡◌, ℕ, ◌+◌, ◌≤◌, List, [], ◌∷◌, ◌++◌, length, map}
 use Rattle.std.specs.declared.option.Option.TheVariants.{Some}

@@ -1,3 +1,4 @@
+-- Inner: no contract of a top call is made of this file.
 -- What a pass at the queue of a pool knows, and how that changes.
 use Rattle.std.specs.Prelude.{ℕ, ◌+◌, ◌-◌, Option, List, [], ◌∷◌, ◌++◌}
 use Rattle.std.specs.declared.option.Option.TheVariants.{None}

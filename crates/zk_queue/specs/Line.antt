@@ -1,3 +1,4 @@
+-- Inner: no contract of a top call is made of this file.
 use Rattle.std.specs.Prelude.{ℕ, ◌<◌, Bool, ◌==◌, cond, Option, None, option_map, List, [], ◌∷◌, find, All}
 use Rattle.std.specs.Option.{option_or}
 use Rattle.zk_queue.specs.declared.ticket.Ticket.{Ticket}

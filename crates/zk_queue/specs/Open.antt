@@ -1,3 +1,4 @@
+-- Inner: no contract of a top call is made of this file.
 use Rattle.std.specs.Prelude.{ℕ, ◌<◌, Bool, false, ◌==◌, ◌&&◌, ◌||◌, Option, Some, None, is_some, is_none, option_map, option_and_then, position, List, [], ◌∷◌, ◌++◌, length, map, set, replicate, slice_index_or, All}
 use Rattle.std.specs.Int.RustNames.{bit_and}
 use Rattle.std.specs.List.{list_any}

@@ -1,3 +1,4 @@
+-- Inner: no contract of a top call is made of this file.
 use Rattle.std.specs.Prelude.{ℕ, ◌≡◌, ◌≢◌, ◌+◌, ◌*◌, ◌≤◌, Bool, true, false, ◌==◌, Option, Some, None, option_map, List, [], ◌∷◌, length, map, slice_index_or, All}
 use Rattle.std.specs.Option.{option_map_or}
 use Rattle.zk_model_work.specs.Questions.{weight}

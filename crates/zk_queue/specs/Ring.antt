@@ -1,3 +1,4 @@
+-- Inner: no contract of a top call is made of this file.
 use Rattle.std.specs.Prelude.{ℕ, ◌≡◌, ◌+◌, ◌-◌, ◌^◌, ◌%◌, ◌⊎◌, Option, None, Some, List, [], ◌∷◌, ◌++◌, slice_index_or}
 use Rattle.zk_queue.specs.declared.ticket.Ticket.{Ticket}
 

@@ -1,3 +1,4 @@
+-- Inner: no contract of a top call is made of this file.
 use Rattle.std.specs.Prelude.{ℕ, ◌≡◌, ◌<◌, Bool, ◌==◌, Option, List, length, map, slice_index_or, All}
 use Rattle.std.specs.Option.{IfSome}
 use Rattle.std.specs.Int.RustNames.{bit_and}

@@ -1,3 +1,4 @@
+-- Inner: no contract of a top call is made of this file.
 use Rattle.std.specs.Prelude.{◌≡◌, ℕ, Bool}
 use Rattle.zk_scenario.specs.declared.pairs.Pairs.{Pairs}
 use Rattle.zk_scenario.specs.Free.{next_is_free}

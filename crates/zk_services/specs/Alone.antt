@@ -1,3 +1,4 @@
+-- Inner: no contract of a top call is made of this file.
 use Rattle.std.specs.Prelude.{None}
 use Rattle.zk_model_wait.specs.Clock.{clock_machine}
 use Rattle.zk_model_wait.specs.Sem.{sem_machine}

@@ -1,3 +1,4 @@
+-- Inner: no contract of a top call is made of this file.
 use Rattle.std.specs.Prelude.{◌≡◌, ℕ, ◌+◌, ◌-◌, ◌^◌, min, List}
 use Rattle.zk_show_chart.specs.declared.lines.Rest.{Rest}
 use Rattle.zk_show_chart.specs.Lines.{Place, behind_feed, behind_lines, line_of, number_from}

@@ -1,3 +1,4 @@
+-- Inner: no contract of a top call is made of this file.
 use Rattle.std.specs.Prelude.{◌≡◌, ℕ, ◌<◌, ◌≤◌, ◌==◌, List, [], ◌∷◌, length, map, count_by, All}
 use Rattle.std.specs.List.{slice_index_or, range_with_len, flat_map, concat, AllAdjacentBelow}
 use Rattle.std.specs.List.Sorted.{IsPermutation}

@@ -1,3 +1,4 @@
+-- Inner: no contract of a top call is made of this file.
 use Rattle.std.specs.Prelude.{◌≡◌, ℕ, ◌<◌, ◌≤◌, List, Some, slice_get, length, take}
 use Rattle.std.specs.List.{All, filter}
 use Rattle.zk_show_chart.specs.declared.chart.Bar.{Bar}

@@ -1,3 +1,4 @@
+-- Inner: no contract of a top call is made of this file.
 -- How often numbers stand in a list, and in what order.
 use Rattle.std.specs.Prelude.{◌≡◌, ℕ, zero, suc, ◌+◌, ◌<◌, ◌==◌, nat_lt, max, if◌then◌else◌, List, [], ◌∷◌, All}
 

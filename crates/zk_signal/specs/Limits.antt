@@ -1,3 +1,4 @@
+-- Inner: no contract of a top call is made of this file.
 -- How many passes and writes a shared signal has at most.
 use Rattle.std.specs.Prelude.{ℕ, ◌*◌}
 

@@ -1,3 +1,4 @@
+-- Inner: no contract of a top call is made of this file.
 -- What a contract sees of a shared signal and of a pass.
 use Rattle.std.specs.Prelude.{◌≡◌, ℕ, ◌+◌, ◌*◌, ◌≤◌, List, [], ◌∷◌, ◌++◌, length, map}
 use Rattle.zk_base.specs.declared.seen.Seen.{Seen}

@@ -1,3 +1,4 @@
+-- Inner: no contract of a top call is made of this file.
 -- The rule of a shared signal: what holds of its words and its seats at every moment.
 use Rattle.std.specs.Prelude.{◌≡◌, ℕ, ◌+◌, ◌*◌, ◌<◌, ◌≤◌, ◌⊎◌, List, length, map, All, slice_index}
 use Rattle.std.specs.List.{sum_by}

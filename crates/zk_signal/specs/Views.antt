@@ -1,3 +1,4 @@
+-- Inner: no contract of a top call is made of this file.
 -- What a seat at the table of a shared signal knows, and how that changes.
 use Rattle.std.specs.Prelude.{ℕ, max, List, [], ◌∷◌, ◌++◌, map}
 use Rattle.zk_signal.specs.declared.views.View.{View}

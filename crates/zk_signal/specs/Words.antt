@@ -1,3 +1,4 @@
+-- Inner: no contract of a top call is made of this file.
 -- What the shared word says.
 use Rattle.std.specs.Prelude.{◌≡◌, ℕ, ◌+◌, ◌*◌, ◌/◌, ◌%◌, ◌⊎◌, ◌==◌, Bool, true, false, if◌then◌else◌, List}
 use Rattle.std.specs.List.{Contains}

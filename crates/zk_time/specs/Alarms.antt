@@ -1,3 +1,4 @@
+-- Inner: no contract of a top call is made of this file.
 use Rattle.std.specs.Prelude.{◌≡◌, ℕ, ◌+◌, ◌*◌, ◌-◌, ◌^◌, ◌<◌, ◌≤◌, ◌==◌, ◌&&◌, if◌then◌else◌, max, count_by, nat_eq, length, vec_len, vec_capacity}
 use Rattle.std.specs.HashMap.{get, spare}
 use Rattle.std.specs.Option.{unwrap_or}

@@ -1,3 +1,4 @@
+-- Inner: no contract of a top call is made of this file.
 use Rattle.std.specs.Prelude.{List}
 use Rattle.zk_base.specs.declared.ids.Entry.{Entry}
 use Rattle.zk_model_wait.specs.declared.clock.ClockOp.{ClockOp}

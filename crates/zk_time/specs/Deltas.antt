@@ -1,3 +1,4 @@
+-- Inner: no contract of a top call is made of this file.
 use Rattle.std.specs.Prelude.{ℕ, ◌≡◌, ◌+◌, ◌-◌, ◌<◌, ◌≤◌, ◌^◌, Bool, ◌==◌, List, [], ◌∷◌, reverse, length, take, drop, slice_index_or, All}
 use Rattle.std.specs.List.{sum_by}
 use Rattle.zk_time.specs.declared.arm.Arm.{Arm}

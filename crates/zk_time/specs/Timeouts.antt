@@ -1,3 +1,4 @@
+-- Inner: no contract of a top call is made of this file.
 use Rattle.std.specs.Prelude.{ℕ, ◌≡◌, ◌<◌, ◌^◌, Bool, false, not, ◌==◌, nat_le, cond, Option, Some, None, option_map, List, [], ◌∷◌, length, find, All}
 use Rattle.std.specs.List.{filter, list_any}
 use Rattle.zk_base.specs.Order.{put_by, Ascends}

@@ -1,3 +1,4 @@
+-- Inner: no contract of a top call is made of this file.
 use Rattle.std.specs.Prelude.{◌^◌, ◌<◌, ◌≤◌, List, length, All}
 use Rattle.std.specs.List.{AllByRecursion}
 use Rattle.zk_base.specs.declared.ids.Entry.{Entry}

@@ -1,3 +1,4 @@
+-- Inner: no contract of a top call is made of this file.
 use Rattle.std.specs.Prelude.{◌≡◌, ℕ, Bool, ◌==◌, zero, suc, Option, Some, None, List, [], ◌∷◌, ◌++◌, length, map}
 use Rattle.std.specs.List.{filter, slice_get}
 use Rattle.zk_worker.specs.declared.steps.Spot.{Spot}

@@ -1,3 +1,4 @@
+-- Inner: no contract of a top call is made of this file.
 use Rattle.std.specs.Prelude.{ℕ, List, [], ◌∷◌}
 use Rattle.zk_trace.specs.declared.parts.Part.{Part}
 use Rattle.zk_trace.specs.declared.parts.Part.TheVariants.{Truth, Refusal, Fixed}

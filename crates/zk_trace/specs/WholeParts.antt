@@ -1,3 +1,4 @@
+-- Inner: no contract of a top call is made of this file.
 use Rattle.zk_trace.specs.declared.whole_read.Families as families_read
 use Rattle.zk_trace.specs.declared.whole_read.Singles as singles_read
 use Rattle.zk_trace.specs.declared.whole_read.Whole as whole_read

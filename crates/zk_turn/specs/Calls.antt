@@ -1,3 +1,4 @@
+-- Inner: no contract of a top call is made of this file.
 -- What one call by a turn of its own does to what its pass has seen.
 use Rattle.std.specs.Prelude.{◌≡◌, ℕ, Option, Some, None, Result, Ok, Err, List, [], ◌∷◌, ◌++◌, length}
 use Rattle.zk_base.specs.declared.ids.Who.{Who}

@@ -1,3 +1,4 @@
+-- Inner: no contract of a top call is made of this file.
 -- What a contract sees of a cell, of a pass and of a turn that is held.
 use Rattle.std.specs.Prelude.{◌≡◌, ℕ, ◌+◌, ◌*◌, ◌<◌, ◌≤◌, Bool, true, false, Option, Some, None, Result, Ok, Err, List, [], ◌∷◌, ◌++◌, length}
 use Rattle.atomic_table.specs.Table.{Me}

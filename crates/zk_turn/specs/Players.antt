@@ -1,3 +1,4 @@
+-- Inner: no contract of a top call is made of this file.
 -- Players, and which entries of a history are theirs.
 use Rattle.std.specs.Prelude.{◌≡◌, ℕ, Bool, false, ◌==◌, ◌||◌, nat_lt, if◌then◌else◌, List, [], ◌∷◌, ◌++◌, length, filter, All}
 use Rattle.zk_base.specs.declared.ids.Who.{Who}

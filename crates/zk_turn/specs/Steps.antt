@@ -1,3 +1,4 @@
+-- Inner: no contract of a top call is made of this file.
 -- What each atomic step tells the seat that makes it.
 use Rattle.std.specs.Prelude.{◌≡◌, ℕ, ◌+◌, ◌*◌, ◌%◌, ◌^◌, ◌<◌, ◌≤◌, max, Option, Some, List, [], ◌∷◌, ◌++◌, length, drop}
 use Rattle.atomic_table.specs.Table.{Me, Step, rest}

@@ -1,3 +1,4 @@
+-- Inner: no contract of a top call is made of this file.
 -- The rule of the turn: what holds of the words, the slot and the seats of a cell at every moment.
 use Rattle.std.specs.Prelude.{◌≡◌, ℕ, ◌+◌, ◌*◌, ◌%◌, ◌^◌, ◌<◌, ◌≤◌, ◌⊎◌, true, Option, Some, List, [], ◌∷◌, length, All, slice_index}
 use Rattle.std.specs.List.{sum_by}

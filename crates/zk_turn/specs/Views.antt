@@ -1,3 +1,4 @@
+-- Inner: no contract of a top call is made of this file.
 -- What a seat at the table of a cell knows, and how that changes.
 use Rattle.std.specs.Prelude.{ℕ, ◌+◌, Bool, true, false, Some, None, List, [], ◌∷◌, ◌++◌}
 use Rattle.zk_base.specs.declared.ids.Who.{Who}

@@ -1,3 +1,4 @@
+-- Inner: no contract of a top call is made of this file.
 -- Published words: what one says, what all of them say of a history, and what a look at one says.
 use Rattle.std.specs.Prelude.{◌≡◌, ℕ, ◌+◌, ◌*◌, ◌/◌, ◌%◌, ◌^◌, ◌<◌, ◌≤◌, ◌⊎◌, true, false, max, Option, Some, None, List, [], ◌∷◌, ◌++◌, length, take, slice_index}
 use Rattle.zk_base.specs.declared.ids.Entry.{Entry}

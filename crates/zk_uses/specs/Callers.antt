@@ -1,3 +1,4 @@
+-- Inner: no contract of a top call is made of this file.
 -- Callers of a shared service.
 use Rattle.std.specs.Prelude.{◌≡◌, ℕ, zero, suc, ◌≤◌, Option, Some, None, Result, Ok, Err, IfOk, List, [], ◌∷◌, length}
 use Rattle.zk_base.specs.declared.ids.Who.{Who}

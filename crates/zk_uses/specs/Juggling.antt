@@ -1,3 +1,4 @@
+-- Inner: no contract of a top call is made of this file.
 -- Balls, and hands that hold none.
 use Rattle.std.specs.Prelude.{◌≡◌, ℕ, ◌+◌, ◌*◌, ◌≤◌, []}
 use Rattle.zk_pool.specs.declared.hand.Hand.{Hand}

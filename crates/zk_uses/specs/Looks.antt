@@ -1,3 +1,4 @@
+-- Inner: no contract of a top call is made of this file.
 -- What those who look at a shared service have found.
 use Rattle.std.specs.Prelude.{◌≡◌, ℕ, ◌+◌, ◌≤◌, List, [], ◌∷◌, length, take, All, vec_capacity}
 use Rattle.zk_base.specs.declared.ids.Who.{Who}

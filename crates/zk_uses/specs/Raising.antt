@@ -1,3 +1,4 @@
+-- Inner: no contract of a top call is made of this file.
 -- Callers that raise a signal.
 use Rattle.std.specs.Prelude.{◌≡◌, ℕ, List, [], ◌∷◌, length, map}
 use Rattle.zk_signal.specs.declared.signal.SharedSignal.{SharedSignal}

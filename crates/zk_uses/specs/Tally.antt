@@ -1,3 +1,4 @@
+-- Inner: no contract of a top call is made of this file.
 -- A small service for the tests: it counts its entries, and answers how many there were before.
 use Rattle.std.specs.Prelude.{ℕ, ◌+◌, Bool, true, false, Some}
 use Rattle.zk_base.specs.declared.ids.Who.{Who}

@@ -1,3 +1,4 @@
+-- Inner: no contract of a top call is made of this file.
 -- A caller's pass of one cell, and one attempt with it.
 use Rattle.std.specs.Prelude.{◌≡◌, ℕ, ◌+◌, ◌≤◌, Option, Some, None, Result, Ok, Err, List, [], ◌∷◌, ◌++◌, length}
 use Rattle.zk_base.specs.declared.ids.Who.{Who}

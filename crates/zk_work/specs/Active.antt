@@ -1,3 +1,4 @@
+-- Inner: no contract of a top call is made of this file.
 use Rattle.std.specs.Prelude.{ℕ, ◌≡◌, ◌<◌, Bool, false, List, length, map}
 use Rattle.std.specs.Option.{option_map_or}
 use Rattle.zk_queue.specs.Open.{Open, ItemMarks, marks_of, run, mark, end}

@@ -1,3 +1,4 @@
+-- Inner: no contract of a top call is made of this file.
 use Rattle.std.specs.Prelude.{◌≡◌, ℕ, ◌<◌, Bool, true, false, nat_lt, List, length, slice_index_or, All}
 use Rattle.zk_model_work.specs.declared.parts.Awaited.{Awaited}
 use Rattle.zk_model_work.specs.declared.parts.Awaited.TheVariants.{Flush}

@@ -1,3 +1,4 @@
+-- Inner: no contract of a top call is made of this file.
 use Rattle.std.specs.Prelude.{◌≡◌, ℕ, ◌<◌, Bool, true, false, ◌==◌, Option, List, AllPairs, IfSome}
 use Rattle.zk_model_work.specs.declared.parts.Wait.{Wait}
 

@@ -1,3 +1,4 @@
+-- Inner: no contract of a top call is made of this file.
 -- How answered calls are kept: a row for each, and the messages apart.
 use Rattle.std.specs.Prelude.{ℕ, ◌≤◌, ◌<◌, Option, Some, None, List, [], ◌∷◌, length, All, slice_get}
 use Rattle.zk_worker.specs.declared.answers.Answer.{Answer}

@@ -1,3 +1,4 @@
+-- Inner: no contract of a top call is made of this file.
 use Rattle.std.specs.Prelude.{◌≡◌, ℕ, Bool, true, false, Option, Some, None, List}
 use Rattle.zk_line.specs.declared.events.Event.{Event}
 use Rattle.zk_words.specs.declared.timeout.Timeout.{Timeout}

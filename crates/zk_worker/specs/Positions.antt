@@ -1,3 +1,4 @@
+-- Inner: no contract of a top call is made of this file.
 use Rattle.std.specs.Prelude.{ℕ, Bool, nat_le, List, length}
 use Rattle.zk_line.specs.declared.events.TheConstants.{MOST_EVENTS}
 

@@ -1,3 +1,4 @@
+-- Inner: no contract of a top call is made of this file.
 use Rattle.std.specs.Prelude.{ℕ, ◌≤◌, Bool, false, List, [], ◌∷◌, length, All}
 use Rattle.zk_scenario.specs.Content.{Content}
 use Rattle.zk_scenario.specs.declared.scenario.TheConstants.{MOST_STEPS}

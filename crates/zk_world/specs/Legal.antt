@@ -1,3 +1,4 @@
+-- Inner: no contract of a top call is made of this file.
 use Rattle.std.specs.Prelude.{◌≡◌, Option, Some, None, List, []}
 use Rattle.std.specs.List.{AllZip}
 use Rattle.zk_base.specs.declared.ids.Entry.{Entry}

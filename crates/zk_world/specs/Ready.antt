@@ -1,3 +1,4 @@
+-- Inner: no contract of a top call is made of this file.
 use Rattle.std.specs.Prelude.{◌≡◌, ℕ, ◌+◌, ◌*◌, ◌-◌, ◌≤◌, Some, None, List, length, slice_get, All}
 use Rattle.std.specs.List.{sum_by}
 use Rattle.zk_base.specs.Limits.{most_players}

@@ -1,3 +1,4 @@
+-- Inner: no contract of a top call is made of this file.
 use Rattle.std.specs.Prelude.{◌≡◌, true, Option, Some, None, List, slice_get, option_map, All}
 use Rattle.zk_base.specs.declared.ids.Who.{Who}
 use Rattle.zk_line.specs.declared.types.Decl.{Decl}

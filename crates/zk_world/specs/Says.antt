@@ -1,3 +1,4 @@
+-- Inner: no contract of a top call is made of this file.
 use Rattle.std.specs.Prelude.{◌≡◌, true, List}
 use Rattle.zk_base.specs.Messages.{is_message}
 use Rattle.zk_line.specs.declared.types.Decl.{Decl}

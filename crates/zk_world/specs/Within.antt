@@ -1,3 +1,4 @@
+-- Inner: no contract of a top call is made of this file.
 use Rattle.std.specs.Prelude.{ℕ, ◌≤◌, length, All}
 use Rattle.zk_worker.specs.Shown.{Shown}
 
