@@ -7,13 +7,14 @@ use Rattle.zk_base.specs.declared.ids.Entry.{Entry}
 use Rattle.zk_base.specs.declared.errors.NoMemory.{NoMemory}
 use Rattle.zk_base.specs.Legal.{Machine, state_after}
 use Rattle.zk_base.specs.History.{entry}
+use Rattle.zk_base.specs.Causes.{counted}
 use Rattle.zk_worker.specs.declared.steps.Step.{Step}
 use Rattle.zk_worker.specs.declared.steps.StepReply.{StepReply}
 use Rattle.zk_worker.specs.Single.{answer_in, OthersGrew}
 use Rattle.zk_worker.specs.Families.{Family, with_entry, answer_at, EachGrew}
 use Rattle.zk_worker.specs.Machines.{Machines}
 use Rattle.zk_worker.specs.Shown.{Shown, shown_after, AllGrew}
-use Rattle.zk_worker.specs.Attempt.{reply_in, Attempted, ReadsAt}
+use Rattle.zk_worker.specs.Attempt.{reply_in, Attempted, ReadsAt, Counts, KeepsElsewhere}
 use Rattle.std.specs.Result.{IsErr, OnErr}
 use Rattle.std.specs.Option.{option_map_or}
 use Rattle.zk_model_work.specs.declared.ops.WorkOp.{WorkOp}
@@ -101,6 +102,13 @@ pub memory-told : (m machines : Machines) (shown : Shown) (w who : Who) (step : 
 memory-told m machines shown w who step (Ok reply) same is none = tt
 memory-told m machines shown w who step (Err e) same is none =
     sym (ap (λ (m : Machines). wants_none m shown w step) same ∙ ap (λ (w : Who). wants_none machines shown w step) is) ∙ none
+
+-- what it leaves elsewhere is told of the step in the code, and so is what it counts
+pub kept-elsewhere : (step asked : Step) (old new : Shown) → asked ≡ step → KeepsElsewhere step old new → KeepsElsewhere asked old new
+kept-elsewhere step asked old new is kept = subst (λ (s : Step). KeepsElsewhere s old new) (sym is) kept
+
+pub counted-once : (step asked : Step) (old new : Counts) → asked ≡ step → new step ≡ counted (old step) → new asked ≡ counted (old asked)
+counted-once step asked old new is once = subst (λ (s : Step). new s ≡ counted (old s)) (sym is) once
 
 -- looks
 in_range-after : (start : State) (h : List (Entry WorkOp WorkReply)) → in_range (state_after work_machine start h) ≡ in_range start

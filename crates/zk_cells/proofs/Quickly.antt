@@ -3,7 +3,7 @@ use Rattle.std.proofs.Common.{◌≡◌, ℕ, ◌+◌, ◌-◌, ◌≤◌, Bool,
 use native.Mathlib.Decide.{ℕ_discrete}
 use Rattle.std.specs.Prelude.{Vec, vec_capacity}
 use Rattle.std.specs.declared.alloc.Global.{Global}
-use Rattle.zk_base.specs.Causes.{Rose}
+use Rattle.zk_base.specs.Causes.{Rose, counted}
 use Rattle.zk_base.specs.History.{entry}
 use Rattle.zk_base.specs.Legal.{IsLegal}
 use Rattle.zk_base.specs.declared.ids.Who.{Who}
@@ -35,8 +35,8 @@ use Rattle.zk_cells.specs.Rows.{holds_in}
 use Rattle.zk_visit.specs.Seats.{IsAt, holds_at}
 use Rattle.zk_cells.specs.Quick.{FoundClear}
 use Rattle.zk_cells.specs.Signals.{signals_by, all_looks, looks_in, HaveOwn, AreNoted, WroteAmong, FoundAmong}
-use Rattle.zk_cells.proofs.SignalSteps.{shows, made-write, elsewhere-write, have-write, noted-write, looks-write, capped-up, capped-rose}
-use Rattle.zk_cells.proofs.SignalLooks.{attempted-look, found-clear, have-look, noted-look, looks-look, looks-else}
+use Rattle.zk_cells.proofs.SignalSteps.{shows, made-write, elsewhere-write, have-write, noted-write, looks-write, capped-up, capped-rose, capped-once}
+use Rattle.zk_cells.proofs.SignalLooks.{attempted-look, elsewhere-look, found-clear, have-look, noted-look, looks-look, looks-else}
 
 -- they serve their player still
 pub served-quick : (k : Cells) (p : Passes) (who : Who) (signals : Vec (Option SigPass) Global) (notes : Vec Note Global) → IsServed k p who → HaveOwn who (writes_at notes.items) k.signals.items signals.items →
@@ -140,7 +140,11 @@ module _ (k : Cells) (p : Passes) (who : Who) (number object : ℕ) (must : Bool
       found.used.signal found.used.before found.used.after found.used.there found.used.was found.made told tells))
 
   pub kept-look : (step : Step) → step ≡ steps.LookSignal object must → KeepsElsewhere step (desk_shown p) (desk_shown looked)
-  kept-look step asked = subst (λ (s : Step). KeepsElsewhere s (desk_shown p) (desk_shown looked)) (sym asked) refl
+  kept-look step asked =
+      subst (λ (s : Step). KeepsElsewhere s (desk_shown p) (desk_shown looked)) (sym asked)
+      (on-passes (λ ps. KeepsElsewhere (steps.LookSignal object must) (desk_shown p) (shows (desk_shown p) (signals_by (writes_at p.notes.items) ps) (all_looks ps)))
+      (elsewhere-look (cells_machines k) who number object must seen (desk_shown p) k.signals.items p.signals.items p.notes.items served.number served.signals
+      found.used.signal found.used.before found.used.after found.used.there found.used.was found.made))
 
   pub served-look : IsServed k looked who
   served-look = served-quick k p who signals p.notes served
@@ -176,6 +180,11 @@ module _ (k : Cells) (p : Passes) (who : Who) (number object : ℕ) (must : Bool
   rose-look step asked =
       subst (λ (s : Step). Rose (desk_counts p s) (desk_counts looked s)) (sym asked)
       (subst (λ (n : ℕ). Rose (capped (looks_in p.signals.items object)) (capped n)) (sym more-here) (capped-rose (looks_in p.signals.items object)))
+
+  pub once-look : (step : Step) → step ≡ steps.LookSignal object must → desk_counts looked step ≡ counted (desk_counts p step)
+  once-look step asked =
+      subst (λ (s : Step). desk_counts looked s ≡ counted (desk_counts p s)) (sym asked)
+      (capped-once (looks_in p.signals.items object) (looks_in signals.items object) more-here)
 
   pub clear-look : (step : Step) (told : Option StepReply) → step ≡ steps.LookSignal object must → told ≡ look_reply must seen → told ≡ None → FoundClear step (desk_shown p) (desk_shown looked)
   clear-look step told asked tells none =

@@ -3,6 +3,7 @@ use Rattle.std.proofs.Common.{◌≡◌, ◌≢◌, ℕ, zero, suc, ◌<◌, Boo
 use Rattle.std.specs.List.{slice_get}
 use Rattle.std.specs.Option.{option_map}
 use Rattle.std.specs.Result.{OnErr}
+use Rattle.std.proofs.lemmas.List.{set-set}
 use Rattle.std.proofs.lemmas.Option.{slice_get_read}
 use Rattle.zk_base.specs.declared.ids.Who.{Who}
 use Rattle.zk_base.specs.declared.ids.Entry.{Entry}
@@ -14,10 +15,10 @@ use Rattle.zk_turn.specs.declared.cell.Cell.{Cell}
 use Rattle.zk_turn.specs.Passes.{given_to}
 use Rattle.zk_worker.specs.declared.steps.StepReply.{StepReply}
 use Rattle.zk_worker.specs.Single.{answer_in, OthersGrew}
-use Rattle.zk_worker.specs.Families.{with_entry, start_of, answer_at, takes_at, EachGrew}
+use Rattle.zk_worker.specs.Families.{closes_at, with_entry, start_of, answer_at, takes_at, EachGrew}
 use Rattle.zk_worker.proofs.Between.{grew-none, grew-none_each}
 use Rattle.zk_visit.specs.Seats.{Visited, seen_at, holds_at}
-use Rattle.zk_cells.specs.Rows.{family, seen_all, holds_in, closes_at, IsSeat, AreSeats, takes_in, VisitedAt}
+use Rattle.zk_cells.specs.Rows.{family, seen_all, holds_in, IsSeat, AreSeats, takes_in, VisitedAt}
 
 module _ {S O R T : Type 0} (m : Machine T O R) (start : S → T) where
   -- an object that takes an operation has a cell
@@ -108,6 +109,10 @@ module _ {S O R T : Type 0} where
   seen-set [] i p' = refl
   seen-set (p ∷ ps) zero p' = refl
   seen-set (p ∷ ps) (suc i) p' = ap (λ (hs : List (List (Entry O R))). seen_at p ∷ hs) (seen-set ps i p')
+
+  -- whatever one of them has seen, what the others have stays
+  pub seen-others : (ps : List (Option (Pass S O R T))) (i : ℕ) (p' : Option (Pass S O R T)) → set (seen_all (set ps i p')) i [] ≡ set (seen_all ps) i []
+  seen-others ps i p' = ap (λ (hs : List (List (Entry O R))). set hs i []) (seen-set ps i p') ∙ set-set (seen_all ps) i (seen_at p') []
 
   pub seen-long : (ps : List (Option (Pass S O R T))) → length (seen_all ps) ≡ length ps
   seen-long [] = refl

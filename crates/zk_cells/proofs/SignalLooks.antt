@@ -2,7 +2,7 @@
 use Rattle.std.proofs.Common.{◌≡◌, ◌≢◌, ℕ, ◌+◌, ◌-◌, ◌^◌, ◌<◌, Bool, true, false, not, ◌&&◌, cond, Option, Some, None, Ok, List, [], ◌∷◌, length, set, refl, sym, ap, subst, ◌∙◌, arith}
 use Rattle.std.specs.List.{slice_get, AllZip}
 use Rattle.std.specs.Option.{option_map, option_map_or, option_and_then}
-use Rattle.std.proofs.lemmas.List.{length-append, map-set}
+use Rattle.std.proofs.lemmas.List.{length-append, map-set, set-set}
 use Rattle.std.proofs.lemmas.List.Elements.{All-weaker}
 use Rattle.std.proofs.lemmas.Option.{same_Some}
 use Rattle.zk_base.specs.declared.ids.Who.{Who}
@@ -83,6 +83,15 @@ module _ (m : Machines) (who : Who) (number object : ℕ) (must : Bool) (seen : 
   since : AllGrew who.number old new
   since = grows-shown who.number base hs hs' (all_looks passes) (all_looks passes') grew longer
 
+  others-same : set hs' object [] ≡ set hs object []
+  others-same =
+      ap (λ (hs : List (List Write)). set hs object []) (shown-set (writes_at notes) (writes_at notes) passes object (Some p') (λ k differ. refl))
+      ∙ set-set hs object (writes_to own (pass_top p')) []
+
+  other-looks-same : set (all_looks passes') object [] ≡ set (all_looks passes) object []
+  other-looks-same =
+      ap (λ (ls : List (List Seen)). set ls object []) (map-set looks_by passes object (Some p')) ∙ set-set (all_looks passes) object (looks_by (Some p')) []
+
   shown-now : slice_get hs' object ≡ Some (writes_to own (pass_top p'))
   shown-now = shown-there (writes_at notes) passes' object (Some p') there'
 
@@ -108,7 +117,7 @@ module _ (m : Machines) (who : Who) (number object : ℕ) (must : Bool) (seen : 
   }
 
   pub elsewhere-look : KeepsElsewhere (steps.LookSignal object must) old new
-  elsewhere-look = refl
+  elsewhere-look = λ i. shows base (others-same i) (other-looks-same i)
 
   pub found-clear : (told : Option StepReply) → told ≡ look_reply must seen → told ≡ None → FoundClear (steps.LookSignal object must) old new
   found-clear told tells none = by must (sym tells ∙ none)

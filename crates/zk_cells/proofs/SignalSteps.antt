@@ -4,9 +4,9 @@ use Rattle.std.specs.List.{slice_get, AllZip}
 use native.Mathlib.Decide.{ℕ_discrete}
 use Rattle.std.specs.Option.{option_map, option_map_or}
 use Rattle.std.proofs.lemmas.Bool.{cases_lt}
-use Rattle.std.proofs.lemmas.List.{length-map, map-append, map-set}
+use Rattle.std.proofs.lemmas.List.{length-map, map-append, map-set, set-set}
 use Rattle.std.proofs.lemmas.List.Elements.{All-map, All-push, All-weaker}
-use Rattle.zk_base.specs.Causes.{Rose}
+use Rattle.zk_base.specs.Causes.{Rose, counted}
 use Rattle.zk_base.specs.History.{entry}
 use Rattle.zk_base.specs.declared.ids.Who.{Who}
 use Rattle.zk_base.specs.declared.seen.Seen.{Seen}
@@ -146,6 +146,11 @@ module _ (m : Machines) (who : Who) (number object : ℕ) (op : SignalOp) (stamp
       ∙ ap (set (all_looks passes) object) wrote.wrote.looks
       ∙ set-there (all_looks passes) object (pass_looks p) (looks-there passes object (Some p) was)
 
+  others-same : set (signals_by (writes_at notes') passes') object [] ≡ set hs object []
+  others-same =
+      ap (λ (hs : List (List Write)). set hs object []) (shown-set (writes_at notes) (writes_at notes') passes object (Some p') elsewhere)
+      ∙ set-set hs object (writes_to (writes_at notes' object) (pass_top p')) []
+
   replied : reply_in m (shows base found-hs (all_looks passes)) who (steps.Signal object op) ≡ Some (step_replies.Signal object (Stamp stamp) before)
   replied =
       let long = long-to own before in
@@ -166,7 +171,7 @@ module _ (m : Machines) (who : Who) (number object : ℕ) (op : SignalOp) (stamp
   }
 
   pub elsewhere-write : KeepsElsewhere (steps.Signal object op) (shows base hs (all_looks passes)) (shows base (signals_by (writes_at notes') passes') (all_looks passes'))
-  elsewhere-write = λ i. shows base (signals_by (writes_at notes') passes') (new-looks i)
+  elsewhere-write = λ i. shows base (others-same i) (new-looks i)
 
   -- the passes are its player's own still
   pub have-write : HaveOwn who (writes_at notes') signals passes'
@@ -210,3 +215,7 @@ capped-up n k le = (omega arith, omega arith)
 
 pub capped-rose : (n : ℕ) → Rose (capped n) (capped (n + 1))
 capped-rose n = ⊎_elim (λ lt. inl (omega arith)) (λ le. inr (omega arith)) (cases_lt n (2 ^ 64 - 1))
+
+-- a turn more is counted once
+pub capped-once : (n k : ℕ) → k ≡ n + 1 → capped k ≡ counted (capped n)
+capped-once n k is = ⊎_elim (λ lt. omega arith) (λ le. omega arith) (cases_lt n (2 ^ 64 - 1))

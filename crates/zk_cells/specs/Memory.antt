@@ -1,29 +1,14 @@
 -- Inner: no contract of a top call is made of this file.
 -- Which steps want no memory at the services that callers share.
-use Rattle.std.specs.Prelude.{Bool, true, false}
+use Rattle.std.specs.Prelude.{Bool, true}
 use Rattle.zk_base.specs.declared.ids.Who.{Who}
-use Rattle.zk_model_wait.specs.Clock.{clock_closes}
-use Rattle.zk_model_wait.specs.Sem.{sem_closes}
-use Rattle.zk_model_wait.specs.Msgq.{msgq_closes}
-use Rattle.zk_model_bus.specs.Channel.{chan_closes}
-use Rattle.zk_model_bus.specs.Observer.{obs_closes}
-use Rattle.zk_work.specs.EngineState.{work_closes}
+use Rattle.zk_services.specs.Memory.{closes}
 use Rattle.zk_worker.specs.declared.steps.Step.{Step}
 use Rattle.zk_worker.specs.declared.steps.Step.TheVariants as steps
 use Rattle.zk_worker.specs.Machines.{Machines}
 use Rattle.zk_worker.specs.Shown.{Shown}
-use Rattle.zk_cells.specs.Rows.{closes_at}
 
--- whether a step wants no memory where this is shown: it ends what an earlier one began, which took the room for both, or it is
--- made at a word without a turn
+-- whether a step wants no memory where this is shown: none at plain services, or it writes to a signal, which takes no turn
 abbrev pub wants_none : Machines → Shown → Who → Step → Bool
-wants_none m shown who (steps.Work op) = work_closes op
-wants_none m shown who (steps.Clock op) = clock_closes op
-wants_none m shown who (steps.Table op) = false
-wants_none m shown who (steps.Sem object op) = closes_at (λ s who op. sem_closes op) m.sems shown.sems who object op
-wants_none m shown who (steps.Msgq object op) = closes_at (λ s who op. msgq_closes op) m.msgqs shown.msgqs who object op
-wants_none m shown who (steps.Chan object op) = closes_at chan_closes m.chans shown.chans who object op
-wants_none m shown who (steps.Obs object op) = closes_at (λ s who op. obs_closes op) m.observers shown.observers who object op
 wants_none m shown who (steps.Signal object op) = true
-wants_none m shown who (steps.LookSignal object must) = true
-wants_none m shown who (steps.LookItem object) = true
+wants_none m shown who step = closes m shown who step

@@ -6,7 +6,7 @@ use Rattle.std.specs.Option.{option_map_or}
 use Rattle.zk_base.specs.declared.ids.Who.{Who}
 use Rattle.zk_base.specs.declared.ids.Entry.{Entry}
 use Rattle.zk_base.specs.declared.errors.NoMemory.{NoMemory}
-use Rattle.zk_base.specs.Legal.{Machine, state_after}
+use Rattle.zk_base.specs.Legal.{Machine}
 use Rattle.zk_base.specs.History.{entry}
 use Rattle.zk_turn.specs.declared.pass.Pass.{Pass}
 use Rattle.zk_turn.specs.declared.cell.Cell.{Cell}
@@ -49,13 +49,6 @@ module _ {S O R T : Type 0} where
   takes_in m start cell op = option_map_or (λ c. m.in_range (start (given_to c)) op) cell false
 
 module _ {O R T : Type 0} where
-  -- whether an operation at the object of this number gives an entry whose room an earlier one took
-  abbrev pub closes_at : (T → Who → O → Bool) → Family T O R → List (List (Entry O R)) → Who → ℕ → O → Bool
-  closes_at closes f histories who object op =
-      option_map_or (λ start.
-      option_map_or (λ h. closes (state_after f.machine start h) who op) (slice_get histories object) false)
-      (start_of f object) false
-
   -- the entry was made at the object of this number, where these were the histories
   pub record IsEnteredAt (f : Family T O R) (who : Who) (step object : ℕ) (op : O) (reply : R) (place : ℕ)
       (old new : List (List (Entry O R))) : Type 0 where

@@ -1,13 +1,13 @@
-ghost use Rattle.std.specs.Prelude.{◌≡◌, ◌+◌, ◌<◌, ◌≢◌, true, false, ℕ, length, slice_get, Some, Option, List, OnErr};
+ghost use Rattle.std.specs.Prelude.{◌≡◌, ◌+◌, ◌<◌, ◌≢◌, true, false, ℕ, length, slice_get, Some, Option, List, [], set, OnErr};
 ghost use Rattle.zk_base.specs.declared.ids.Entry.{Entry};
 ghost use Rattle.zk_base.specs.Legal.{IsLegal, state_after};
 ghost use Rattle.zk_base.specs.History.{IsAbove};
 ghost use Rattle.zk_turn.specs.Players.{room_of_a_pass};
 ghost use Rattle.zk_turn.specs.declared.cell.Cell.{Cell};
 ghost use Rattle.zk_turn.specs.Passes.{given_to};
-ghost use Rattle.zk_worker.specs.Families.{takes_at};
+ghost use Rattle.zk_worker.specs.Families.{closes_at, takes_at};
 ghost use Rattle.zk_visit.specs.Seats.{Visited, seen_at, holds_at};
-ghost use Rattle.zk_cells.specs.Rows.{family, seen_all, holds_in, closes_at, IsSeat, AreSeats, takes_in, VisitedAt};
+ghost use Rattle.zk_cells.specs.Rows.{family, seen_all, holds_in, IsSeat, AreSeats, takes_in, VisitedAt};
 
 use std::sync::Wait;
 use zk_base::{NoMemory, Service, Who};
@@ -59,6 +59,7 @@ pub fn visit_at<S: Service, R: Wait>(
     ensures holds { holds_in seats.new.items object ≡ holds_in seats.old.items object + 1 }
     ensures memory { OnErr result (closes_at S.closes (family S.machine S.start cells.now)
         (seen_all seats.new.items) who object op ≡ false) }
+    ensures kept { set (seen_all seats.new.items) object [] ≡ set (seen_all seats.old.items) object [] }
     ensures others { (i : ℕ) → i ≢ object → holds_in seats.new.items i ≡ holds_in seats.old.items i }
 {
     let object = object as usize;

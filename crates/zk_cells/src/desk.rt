@@ -1,5 +1,5 @@
 ghost use Rattle.std.specs.Prelude.{◌≡◌, ◌<◌, true, false, None, IfOk, OnErr};
-ghost use Rattle.zk_base.specs.Causes.{Rose};
+ghost use Rattle.zk_base.specs.Causes.{Rose, counted};
 ghost use Rattle.zk_scenario.specs.declared.scenario.TheConstants.{MOST_STEPS};
 ghost use Rattle.zk_worker.specs.Attempt.{is_in_range, Attempted, KeepsElsewhere, NoneFell, SamePlayers};
 ghost use Rattle.zk_worker.specs.Shown.{IsLater};
@@ -35,6 +35,8 @@ impl<'a, R: Wait> Services for Desk<'a, R> {
 
     ghost shown = { λ d. desk_shown d.passes };
 
+    ghost wants_none = { wants_none };
+
     ghost counts = { λ d. desk_counts d.passes };
 
     fn attempt(&mut self, who: Who, number: u32, step: &Step) -> Result<Option<StepReply>, NoMemory>
@@ -45,15 +47,17 @@ impl<'a, R: Wait> Services for Desk<'a, R> {
         ensures attempted { Attempted false (cells_machines self.old.cells.now) who number step.now
             (desk_shown self.old.passes) (desk_shown self.new.passes) result }
         ensures elsewhere { KeepsElsewhere step.now (desk_shown self.old.passes) (desk_shown self.new.passes) }
+        ensures memory { OnErr result (wants_none (cells_machines self.old.cells.now)
+            (desk_shown self.new.passes) who step.now ≡ false) }
         ensures counts { NoneFell (desk_counts self.old.passes) (desk_counts self.new.passes) }
         ensures rose { IfOk result (λ reply. reply ≡ None →
             Rose (desk_counts self.old.passes step.now) (desk_counts self.new.passes step.now)) }
         ensures machines { cells_machines self.new.cells.now ≡ cells_machines self.old.cells.now }
         ensures serves { SamePlayers (IsServed self.old.cells.now self.old.passes) (IsServed self.new.cells.now self.new.passes) }
         ensures home { self.new.cells.now ≡ self.old.cells.now }
-        // Beside what any services give: some steps want no memory.
-        ensures memory { OnErr result (wants_none (cells_machines self.old.cells.now)
-            (desk_shown self.new.passes) who step.now ≡ false) }
+        // Beside what any services give: an attempt that wasn't possible is counted once.
+        ensures once { IfOk result (λ reply. reply ≡ None →
+            desk_counts self.new.passes step.now ≡ counted (desk_counts self.old.passes step.now)) }
     {
         match step {
             Step::Work(op) => {

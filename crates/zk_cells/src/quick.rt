@@ -1,5 +1,5 @@
 ghost use Rattle.std.specs.Prelude.{◌≡◌, ◌<◌, true, false, None, Ok};
-ghost use Rattle.zk_base.specs.Causes.{Rose};
+ghost use Rattle.zk_base.specs.Causes.{Rose, counted};
 ghost use Rattle.zk_scenario.specs.declared.scenario.TheConstants.{MOST_STEPS};
 ghost use Rattle.zk_worker.specs.Attempt.{is_in_range, Attempted, KeepsElsewhere, NoneFell};
 ghost use Rattle.zk_worker.specs.Looks.{look_reply};
@@ -54,6 +54,7 @@ pub fn quick_attempt(
     ensures elsewhere { KeepsElsewhere step.now (desk_shown passes.old) (desk_shown passes.new) }
     ensures counts { NoneFell (desk_counts passes.old) (desk_counts passes.new) }
     ensures rose { result ≡ None → Rose (desk_counts passes.old step.now) (desk_counts passes.new step.now) }
+    ensures once { result ≡ None → desk_counts passes.new step.now ≡ counted (desk_counts passes.old step.now) }
     ensures none { result ≡ None → FoundClear step.now (desk_shown passes.old) (desk_shown passes.new) }
     ensures served { IsServed cells.now passes.new who }
 {

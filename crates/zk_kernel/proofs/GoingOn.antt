@@ -15,10 +15,11 @@ use Rattle.zk_worker.specs.Checks.{next_check}
 use Rattle.zk_worker.specs.Follows.{is_spent_at}
 use Rattle.zk_worker.specs.Machines.{Machines, machines_of}
 use Rattle.zk_worker.specs.Places.{PlayerPlace}
-use Rattle.zk_worker.specs.Playing.{StepOutcome, HasStepped}
+use Rattle.zk_worker.specs.Playing.{HasWanted, StepOutcome, HasStepped}
 use Rattle.zk_worker.specs.Protocol.{attempts, after, checks_first, frames_attempts, IsAhead}
 use Rattle.zk_worker.specs.Shown.{Shown, shown_after, OnlyOthersCame}
-use Rattle.zk_kernel.specs.Rests.{Left, HasGoneOn}
+use Rattle.zk_services.specs.Memory.{closes}
+use Rattle.zk_kernel.specs.Rests.{Left, HasGoneOn, HasWantedThere}
 use Rattle.zk_world.specs.Chosen.{IsChosen}
 use Rattle.zk_world.specs.Sound.{IsSound}
 use Rattle.zk_world.specs.World.{World, world, stepped}
@@ -90,3 +91,14 @@ pub gone-on : (old new : Left) (p : ℕ) (at at' : PlayerPlace) (counts counts' 
 gone-on old new p at at' counts counts' (Err e) scenario there players does = tt
 gone-on old new p at at' counts counts' (Ok stepped) scenario there players does =
     record { scenario = scenario; at = at; at' = at'; there = there; players = players; counts = counts; counts' = counts'; outcome = does }
+
+-- what wanted memory where this was shown wanted it in what was left before
+pub wanted-there : (old : Left) (player : ℕ) (at : PlayerPlace) (m : Machines) (shown : Shown) (result : Result Stepped NoMemory) → m ≡ machines_of old.scenario → slice_get old.world.players player ≡ Some at →
+    OnErr result (shown ≡ old.world.shown) → OnErr result (HasWanted closes m shown old.scenario at) → OnErr result (HasWantedThere old player)
+wanted-there old player at m shown (Ok stepped) machines there same wanted = tt
+wanted-there old player at m shown (Err e) machines there same wanted = record {
+  at = at;
+  there = there;
+  wanted = subst (λ (n : Machines). HasWanted closes n old.world.shown old.scenario at) machines
+      (subst (λ (h : Shown). HasWanted closes m h old.scenario at) same wanted);
+}

@@ -3,11 +3,12 @@
 use Rattle.std.specs.Prelude.{◌≡◌, ℕ, true, Some, List, length, map, slice_get, slice_set, All}
 use Rattle.zk_scenario.specs.Content.{Content}
 use Rattle.zk_scenario.specs.Players.{players}
+use Rattle.zk_services.specs.Memory.{closes}
 use Rattle.zk_worker.specs.declared.playing.Stepped.{Stepped}
 use Rattle.zk_worker.specs.Attempt.{Counts}
 use Rattle.zk_worker.specs.Machines.{machines_of}
 use Rattle.zk_worker.specs.Places.{PlayerPlace}
-use Rattle.zk_worker.specs.Playing.{StepOutcome}
+use Rattle.zk_worker.specs.Playing.{HasWanted, StepOutcome}
 use Rattle.zk_world.specs.Sound.{IsSound}
 use Rattle.zk_world.specs.World.{World}
 use Rattle.zk_kernel.specs.declared.caller.Caller.{Caller}
@@ -47,3 +48,9 @@ pub record HasGoneOn (old new : Left) (player : ℕ) (stepped : Stepped) : Type 
   pub counts' : Counts
   pub outcome : StepOutcome true (machines_of old.scenario) old.scenario at at' old.world.shown new.world.shown
       counts counts' stepped
+
+-- a player of what is left wanted memory for one of its next attempts, and for none that wants none
+pub record HasWantedThere (old : Left) (player : ℕ) : Type 0 where
+  pub at : PlayerPlace
+  pub there : slice_get old.world.players player ≡ Some at
+  pub wanted : HasWanted closes (machines_of old.scenario) old.world.shown old.scenario at

@@ -2,9 +2,10 @@ ghost use Rattle.std.specs.Prelude.{◌≡◌, ◌≤◌, false, ℕ, length, sl
 ghost use Rattle.zk_worker.specs.Next.{next_call};
 ghost use Rattle.zk_scenario.specs.declared.scenario.TheConstants.{MOST_STEPS};
 ghost use Rattle.zk_worker.specs.Machines.{machines_of};
-ghost use Rattle.zk_worker.specs.Playing.{StepOutcome};
+ghost use Rattle.zk_worker.specs.Playing.{HasWanted, StepOutcome};
 ghost use Rattle.zk_worker.specs.Protocol.{attempts};
 ghost use Rattle.zk_worker.specs.Shown.{OnlyOthersCame};
+ghost use Rattle.zk_cells.specs.Memory.{wants_none};
 ghost use Rattle.zk_kernel.specs.Callers.{IsCaller, place_of, shown_to, counts_of, is_stopped, lives};
 
 use crate::kernel::Kernel;
@@ -77,6 +78,10 @@ impl Caller {
         ensures unchanged { OnErr result (place_of self.new ≡ place_of self.old) }
         ensures err { OnErr result (OnlyOthersCame false (place_of self.old).who.number
             (shown_to self.old) (shown_to self.new)) }
+
+        // It was one of its next attempts that wanted memory, and none that ends what an earlier one began.
+        ensures memory { OnErr result (HasWanted wants_none (machines_of kernel.now.scenario) (shown_to self.new)
+            kernel.now.scenario (place_of self.old)) }
 
         // It is a caller of this kernel still, of the same player.
         ensures own { IsCaller kernel.now self.new }

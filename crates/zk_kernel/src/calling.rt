@@ -1,6 +1,6 @@
 ghost use Rattle.std.specs.Prelude.{◌≡◌, nat_le, length, IfOk, OnErr, true, false, Some, None};
-ghost use Rattle.zk_worker.specs.Attempt.{Attempted};
-ghost use Rattle.zk_base.specs.Causes.{Rose};
+ghost use Rattle.zk_worker.specs.Attempt.{Attempted, KeepsElsewhere};
+ghost use Rattle.zk_base.specs.Causes.{counted};
 ghost use Rattle.zk_worker.specs.Machines.{machines_of};
 ghost use Rattle.zk_worker.specs.Protocol.{IsAhead};
 ghost use Rattle.zk_kernel.specs.Callers.{IsCaller, place_of, shown_to, counts_of, is_stopped, lives, attempted_at};
@@ -35,12 +35,15 @@ impl Caller {
         requires ahead { IsAhead kernel.now.scenario (place_of self.old) step.now }
 
         // A reply is the machine's at what this turn found, and is followed by the step's entry; without a reply the machine
-        // says so at what it found, and no entry of this player came.
+        // says so at what it found, and no entry of this player came. What was seen of each other object stays as it was.
         ensures attempted { Attempted false (machines_of kernel.now.scenario) (place_of self.old).who
             (length (place_of self.old).spots) step.now (shown_to self.old) (shown_to self.new) result }
         ensures place { place_of self.new ≡ attempted_at kernel.now.scenario (place_of self.old) step.now result }
-        ensures rose { IfOk result (λ reply. reply ≡ None →
-            Rose (counts_of self.old step.now) (counts_of self.new step.now)) }
+        ensures elsewhere { KeepsElsewhere step.now (shown_to self.old) (shown_to self.new) }
+
+        // Where it wasn't possible it had one turn there, or made one look at the signal, as far as these are counted.
+        ensures once { IfOk result (λ reply. reply ≡ None →
+            counts_of self.new step.now ≡ counted (counts_of self.old step.now)) }
 
         // A step that ends what an earlier one began wants no memory, nor does one that takes no turn.
         ensures memory { OnErr result (wants_none (machines_of kernel.now.scenario) (shown_to self.new)

@@ -1,6 +1,6 @@
 ghost use Rattle.std.specs.Prelude.{◌≡◌, true, false, None, Ok, length};
-ghost use Rattle.zk_base.specs.Causes.{Rose};
-ghost use Rattle.zk_worker.specs.Attempt.{Attempted};
+ghost use Rattle.zk_base.specs.Causes.{counted};
+ghost use Rattle.zk_worker.specs.Attempt.{Attempted, KeepsElsewhere};
 ghost use Rattle.zk_worker.specs.Machines.{machines_of};
 ghost use Rattle.zk_worker.specs.Protocol.{IsAhead};
 ghost use Rattle.zk_cells.specs.Quick.{is_quick, FoundClear};
@@ -23,12 +23,13 @@ impl Caller {
         requires quick { is_quick step.now ≡ true }
 
         // A reply is the machine's, and is followed by the step's entry, if it has one; without a reply a look found the signal
-        // clear, which is shown with the other looks.
+        // clear, which is shown with the other looks, and is one look more. What was seen of each other object stays as it was.
         ensures attempted { Attempted false (machines_of kernel.now.scenario) (place_of self.old).who
             (length (place_of self.old).spots) step.now (shown_to self.old) (shown_to self.new) (Ok result) }
         ensures place { place_of self.new ≡ attempted_at kernel.now.scenario (place_of self.old) step.now (Ok result) }
         ensures none { result ≡ None → FoundClear step.now (shown_to self.old) (shown_to self.new) }
-        ensures rose { result ≡ None → Rose (counts_of self.old step.now) (counts_of self.new step.now) }
+        ensures elsewhere { KeepsElsewhere step.now (shown_to self.old) (shown_to self.new) }
+        ensures once { result ≡ None → counts_of self.new step.now ≡ counted (counts_of self.old step.now) }
 
         // It is a caller of this kernel still, of the same player.
         ensures own { IsCaller kernel.now self.new }

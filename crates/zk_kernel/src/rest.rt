@@ -8,7 +8,7 @@ ghost use Rattle.zk_world.specs.Over.{IsOver};
 ghost use Rattle.zk_world.specs.Traces.{ending_at, world_trace, IsFaithful};
 ghost use Rattle.zk_world.specs.World.{world};
 ghost use Rattle.zk_world.specs.Sound.{IsSound};
-ghost use Rattle.zk_kernel.specs.Rests.{HasGoneOn};
+ghost use Rattle.zk_kernel.specs.Rests.{HasGoneOn, HasWantedThere};
 
 use std::alloc::Global;
 use std::marker::Model;
@@ -72,6 +72,7 @@ impl Rest {
         requires player { number < length self.old.world.players }
         ensures does { IfOk result (λ stepped. HasGoneOn self.old self.new number stepped) }
         ensures unchanged { OnErr result (self.new ≡ self.old) }
+        ensures memory { OnErr result (HasWantedThere self.old number) }
     {
         let player = &mut self.players[number as usize];
         player.step(&self.scenario, &mut self.services)

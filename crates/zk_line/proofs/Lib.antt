@@ -1,5 +1,6 @@
 pub mod ByName
 pub mod CallRows
+pub mod Crossing
 pub mod Choices
 pub mod Fits
 pub mod InRange

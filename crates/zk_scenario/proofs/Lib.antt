@@ -1,5 +1,6 @@
 pub mod AcceptedLines
 pub mod AlwaysSays
+pub mod Crossing
 pub mod FreeLines
 pub mod InOrder
 pub mod Named

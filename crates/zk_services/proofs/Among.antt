@@ -1,7 +1,9 @@
 -- The objects of a kind, one of which is asked.
-use Rattle.std.proofs.Common.{◌≡◌, ℕ, zero, suc, ◌<◌, true, Option, Some, None, Ok, List, [], ◌∷◌, ◌++◌, length, set, get_or, refl, sym, ap, subst, ◌∙◌, arith}
+use Rattle.std.proofs.Common.{◌≡◌, ℕ, zero, suc, ◌<◌, Bool, true, false, Option, Some, None, Result, Ok, Err, List, [], ◌∷◌, ◌++◌, length, set, get_or, refl, sym, ap, subst, ◌∙◌, arith}
 use Rattle.std.specs.List.{slice_get}
 use Rattle.std.specs.Option.{option_map}
+use Rattle.std.specs.Result.{OnErr}
+use Rattle.std.proofs.lemmas.List.{map-set, set-set}
 use Rattle.std.proofs.lemmas.Option.{slice_get_read}
 use Rattle.zk_base.specs.declared.ids.Who.{Who}
 use Rattle.zk_base.specs.declared.ids.Entry.{Entry}
@@ -13,8 +15,8 @@ use Rattle.zk_worker.specs.Machines.{Machines}
 use Rattle.zk_worker.specs.Shown.{Shown, shown_after}
 use Rattle.zk_worker.specs.Attempt.{reply_in, Attempted}
 use Rattle.zk_worker.proofs.Looking.{reads-whole}
-use Rattle.zk_worker.specs.Families.{with_entry, answer_at, takes_at}
-use Rattle.zk_services.specs.Objects.{starts_of, history_of, histories_of, is_taken, made_of, histories_after}
+use Rattle.zk_worker.specs.Families.{with_entry, answer_at, closes_at, takes_at}
+use Rattle.zk_services.specs.Objects.{starts_of, history_of, histories_of, is_taken, made_of, histories_after, closes_in}
 
 module _ {V S O R : Type 0} (m : Machine S O R) (start : V → S) (history : V → List (Entry O R)) where
   -- an object that takes an operation is there
@@ -66,6 +68,18 @@ module _ {V S O R : Type 0} (m : Machine S O R) (start : V → S) (history : V �
           ∙ mapped f (length (history v)) (m.reply_of (state_after m (start v) (history v)) who op)
       from (o ∷ os) (suc object) there f = from os object there f
 
+  -- whether it closes what an earlier one began
+  pub closes-one : (closes : S → Who → O → Bool) (objects : List (Option V)) (object : ℕ) (slot : Option V) (who : Who) (op : O) → slice_get objects object ≡ Some slot →
+      closes_at closes (record { machine = m; starts = starts_of start objects }) (histories_of history objects) who object op ≡ closes_in closes m start history slot who op
+  closes-one closes [] object slot who op there = absurd (cc)
+  closes-one closes (None ∷ os) zero slot who op there =
+      let same : None ≡ slot = cc in
+      ap (λ (o : Option V). closes_in closes m start history o who op) same
+  closes-one closes (Some v ∷ os) zero slot who op there =
+      let same : Some v ≡ slot = cc in
+      ap (λ (o : Option V). closes_in closes m start history o who op) same
+  closes-one closes (o ∷ os) (suc object) slot who op there = closes-one closes os object slot who op there
+
   -- where its history stays as it was, all do
   pub histories-same : (objects : List (Option V)) (object : ℕ) (slot slot' : Option V) → slice_get objects object ≡ Some slot →
       history_of history slot' ≡ history_of history slot → histories_of history (set objects object slot') ≡ histories_of history objects
@@ -90,6 +104,12 @@ module _ {V S O R : Type 0} (m : Machine S O R) (start : V → S) (history : V �
       histories_of history (set objects object slot') ≡ histories_after (histories_of history objects) object who step op made
   histories-made objects object slot slot' who step op None there longer = histories-same objects object slot slot' there longer
   histories-made objects object slot slot' who step op (Some made) there longer = histories-entry objects object slot slot' (entry who step op made.0) there longer
+
+  -- whatever comes to it, those of the others stay
+  pub histories-others : (objects : List (Option V)) (object : ℕ) (slot' : Option V) → set (histories_of history (set objects object slot')) object [] ≡ set (histories_of history objects) object []
+  histories-others objects object slot' =
+      ap (λ (hs : List (List (Entry O R))). set hs object []) (map-set (history_of history) objects object slot')
+      ∙ set-set (histories_of history objects) object (history_of history slot') []
 
   -- the states that they started in stay
   pub starts-same : (objects : List (Option V)) (object : ℕ) (slot slot' : Option V) → slice_get objects object ≡ Some slot →
@@ -123,3 +143,8 @@ module _ {O R : Type 0} (m : Machines) (who : Who) (number object : ℕ) (op : O
   attempted-at hs' made step' told said is asked tells =
       subst (λ (s : Step). Attempted true m who number s old (write hs') (Ok told)) (sym asked)
       (subst (λ (o : Option StepReply). Attempted true m who number step old (write hs') (Ok o)) tells (made-at hs' made said is))
+
+-- what wanted memory was none that wants none
+pub when-wanted : {A E : Type 0} (r : Result A E) (b : Bool) → b ≡ false → OnErr r (b ≡ false)
+when-wanted (Ok a) b is = tt
+when-wanted (Err e) b is = is

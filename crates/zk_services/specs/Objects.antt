@@ -37,3 +37,9 @@ abbrev pub histories_after : {O R : Type 0} → List (List (Entry O R)) → ℕ 
 histories_after histories object who step op None = histories
 histories_after histories object who step op (Some made) =
     with_entry histories object (entry who step op made.0)
+
+-- whether an operation at an object gives an entry whose room an earlier one took
+abbrev pub closes_in : {V S O R : Type 0} → (S → Who → O → Bool) → Machine S O R → (V → S) → (V → List (Entry O R)) →
+    Option V → Who → O → Bool
+closes_in closes m start history object who op =
+    option_map_or (λ service. closes (state_after m (start service) (history service)) who op) object false

@@ -1,10 +1,10 @@
-ghost use Rattle.std.specs.Prelude.{◌≡◌, ℕ, ◌<◌, true, Some, List, length, slice_get, option_map, IfOk, OnErr};
+ghost use Rattle.std.specs.Prelude.{◌≡◌, ℕ, ◌<◌, true, false, Some, List, [], set, length, slice_get, option_map, IfOk, OnErr};
 ghost use Rattle.zk_base.specs.Limits.{most_entries};
 ghost use Rattle.zk_base.specs.declared.ids.Entry.{Entry};
 ghost use Rattle.zk_base.specs.History.{extended, IsAbove};
 ghost use Rattle.zk_worker.specs.declared.steps.StepReply.{StepReply};
-ghost use Rattle.zk_worker.specs.Families.{answer_at, takes_at};
-ghost use Rattle.zk_services.specs.Objects.{starts_of, history_of, histories_of, is_taken, made_of, histories_after};
+ghost use Rattle.zk_worker.specs.Families.{answer_at, closes_at, takes_at};
+ghost use Rattle.zk_services.specs.Objects.{starts_of, history_of, histories_of, is_taken, made_of, histories_after, closes_in};
 
 use std::alloc::Global;
 use zk_base::{Entry, Listed, NoMemory, Service, Who};
@@ -24,6 +24,7 @@ fn act_one<S: Service>(
     ensures entry { IfOk result (λ made. history_of S.history slot.new
         ≡ extended (history_of S.history slot.old) who step op (option_map (λ made. made.0) made)) }
     ensures err { OnErr result (history_of S.history slot.new ≡ history_of S.history slot.old) }
+    ensures memory { OnErr result (closes_in S.closes S.machine S.start S.history slot.old who op ≡ false) }
     ensures start { option_map S.start slot.new ≡ option_map S.start slot.old }
 {
     let Some(service) = slot else { unreachable!() };
@@ -57,6 +58,11 @@ pub fn act_at<S: Service>(
     ensures entry { IfOk result (λ made. histories_of S.history objects.new.items
         ≡ histories_after (histories_of S.history objects.old.items) object who step op made) }
     ensures err { OnErr result (histories_of S.history objects.new.items ≡ histories_of S.history objects.old.items) }
+    ensures memory { OnErr result (closes_at S.closes
+        (record { machine = S.machine; starts = starts_of S.start objects.old.items })
+        (histories_of S.history objects.old.items) who object op ≡ false) }
+    ensures others { set (histories_of S.history objects.new.items) object []
+        ≡ set (histories_of S.history objects.old.items) object [] }
     ensures start { starts_of S.start objects.new.items ≡ starts_of S.start objects.old.items }
 {
     act_one(&mut objects[object as usize], who, step, op)

@@ -1,9 +1,10 @@
-ghost use Rattle.std.specs.Prelude.{◌≡◌, true, Some, IfOk};
+ghost use Rattle.std.specs.Prelude.{◌≡◌, true, false, Some, IfOk, OnErr};
 ghost use Rattle.zk_base.specs.declared.ids.Who.{Who};
 ghost use Rattle.zk_worker.specs.Attempt.{reply_in, is_in_range, Attempted, KeepsElsewhere};
 ghost use Rattle.zk_worker.specs.Shown.{IsLater, AreShort};
 ghost use Rattle.zk_worker.specs.Looks.{look_reply};
 ghost use Rattle.zk_services.specs.Alone.{plain_machines, plain_shown};
+ghost use Rattle.zk_services.specs.Memory.{closes};
 
 use crate::objects::{act_at, histories_of};
 use std::alloc::Global;
@@ -105,6 +106,7 @@ impl Plain {
         ensures attempted { Attempted true (plain_machines self.old) who number (Step.Work op.now)
             (plain_shown self.old) (plain_shown self.new) result }
         ensures elsewhere { KeepsElsewhere (Step.Work op.now) (plain_shown self.old) (plain_shown self.new) }
+        ensures memory { OnErr result (closes (plain_machines self.old) (plain_shown self.new) who (Step.Work op.now) ≡ false) }
         ensures machines { plain_machines self.new ≡ plain_machines self.old }
     {
         let place = self.work.history().len() as u64;
@@ -125,6 +127,7 @@ impl Plain {
         ensures attempted { Attempted true (plain_machines self.old) who number (Step.Clock op.now)
             (plain_shown self.old) (plain_shown self.new) result }
         ensures elsewhere { KeepsElsewhere (Step.Clock op.now) (plain_shown self.old) (plain_shown self.new) }
+        ensures memory { OnErr result (closes (plain_machines self.old) (plain_shown self.new) who (Step.Clock op.now) ≡ false) }
         ensures machines { plain_machines self.new ≡ plain_machines self.old }
     {
         let place = self.clock.history().len() as u64;
@@ -145,6 +148,7 @@ impl Plain {
         ensures attempted { Attempted true (plain_machines self.old) who number (Step.Table op.now)
             (plain_shown self.old) (plain_shown self.new) result }
         ensures elsewhere { KeepsElsewhere (Step.Table op.now) (plain_shown self.old) (plain_shown self.new) }
+        ensures memory { OnErr result (closes (plain_machines self.old) (plain_shown self.new) who (Step.Table op.now) ≡ false) }
         ensures machines { plain_machines self.new ≡ plain_machines self.old }
     {
         let place = self.table.history().len() as u64;
@@ -166,6 +170,7 @@ impl Plain {
         ensures attempted { Attempted true (plain_machines self.old) who number (Step.Sem object op.now)
             (plain_shown self.old) (plain_shown self.new) result }
         ensures elsewhere { KeepsElsewhere (Step.Sem object op.now) (plain_shown self.old) (plain_shown self.new) }
+        ensures memory { OnErr result (closes (plain_machines self.old) (plain_shown self.new) who (Step.Sem object op.now) ≡ false) }
         ensures machines { plain_machines self.new ≡ plain_machines self.old }
     {
         let made = act_at(&mut self.sems, object, who, number, *op)?;
@@ -186,6 +191,7 @@ impl Plain {
         ensures attempted { Attempted true (plain_machines self.old) who number (Step.Msgq object op.now)
             (plain_shown self.old) (plain_shown self.new) result }
         ensures elsewhere { KeepsElsewhere (Step.Msgq object op.now) (plain_shown self.old) (plain_shown self.new) }
+        ensures memory { OnErr result (closes (plain_machines self.old) (plain_shown self.new) who (Step.Msgq object op.now) ≡ false) }
         ensures machines { plain_machines self.new ≡ plain_machines self.old }
     {
         let made = act_at(&mut self.msgqs, object, who, number, *op)?;
@@ -206,6 +212,7 @@ impl Plain {
         ensures attempted { Attempted true (plain_machines self.old) who number (Step.Signal object op.now)
             (plain_shown self.old) (plain_shown self.new) result }
         ensures elsewhere { KeepsElsewhere (Step.Signal object op.now) (plain_shown self.old) (plain_shown self.new) }
+        ensures memory { OnErr result (closes (plain_machines self.old) (plain_shown self.new) who (Step.Signal object op.now) ≡ false) }
         ensures machines { plain_machines self.new ≡ plain_machines self.old }
     {
         let made = act_at(&mut self.signals, object, who, number, *op)?;
@@ -226,6 +233,7 @@ impl Plain {
         ensures attempted { Attempted true (plain_machines self.old) who number (Step.Chan object op.now)
             (plain_shown self.old) (plain_shown self.new) result }
         ensures elsewhere { KeepsElsewhere (Step.Chan object op.now) (plain_shown self.old) (plain_shown self.new) }
+        ensures memory { OnErr result (closes (plain_machines self.old) (plain_shown self.new) who (Step.Chan object op.now) ≡ false) }
         ensures machines { plain_machines self.new ≡ plain_machines self.old }
     {
         let made = act_at(&mut self.chans, object, who, number, *op)?;
@@ -246,6 +254,7 @@ impl Plain {
         ensures attempted { Attempted true (plain_machines self.old) who number (Step.Obs object op.now)
             (plain_shown self.old) (plain_shown self.new) result }
         ensures elsewhere { KeepsElsewhere (Step.Obs object op.now) (plain_shown self.old) (plain_shown self.new) }
+        ensures memory { OnErr result (closes (plain_machines self.old) (plain_shown self.new) who (Step.Obs object op.now) ≡ false) }
         ensures machines { plain_machines self.new ≡ plain_machines self.old }
     {
         let made = act_at(&mut self.observers, object, who, number, *op)?;
@@ -293,6 +302,7 @@ impl Services for Plain {
 
     ghost use Rattle.std.specs.Prelude.{true, ◌-◌, ◌^◌};
     ghost use Rattle.zk_services.specs.Alone.{plain_machines, plain_shown};
+    ghost use Rattle.zk_services.specs.Memory.{closes};
 
     ghost home = { λ p. tt };
 
@@ -303,6 +313,8 @@ impl Services for Plain {
     ghost alone = { λ p. true };
 
     ghost shown = { plain_shown };
+
+    ghost wants_none = { closes };
 
     // Nothing is counted: each count stands at the most that it can be.
     ghost counts = { λ p step. 2 ^ 64 - 1 };

@@ -1,4 +1,5 @@
 pub mod Counts
+pub mod Crossing
 mod Dealing
 mod Ending
 mod Joining

@@ -51,7 +51,8 @@ fn four_threads_submit(rt: HostRuntime) -> Result<(), Fail> {
     let work = Work::new(rt.alloc(), 1, &[9], &[true])?;
     let (cell, passes) = Cell::new(rt.alloc(), work, &[FIRST, SECOND, THIRD, FOURTH])?;
     let (one, other) = four_callers(&cell, (FIRST, SECOND, THIRD, FOURTH), passes);
-    let pass = submitted_by_four(&rt, &cell, one, other, TIMES);
+    let (pass, made) = submitted_by_four(&rt, &cell, one, other, TIMES);
+    made?;
     let history = cell.close(pass).into_history();
     assert!(rt; history.len() == 4000);
     for who in [FIRST, SECOND, THIRD, FOURTH] {
@@ -65,7 +66,8 @@ fn two_threads_let_time_pass(rt: HostRuntime) -> Result<(), Fail> {
     let clock = Clock::new(rt.alloc());
     let (cell, passes) = Cell::new(rt.alloc(), clock, &[FIRST, SECOND])?;
     let (first, second) = two_callers(&cell, FIRST, SECOND, passes);
-    let pass = ticked_by_two(&rt, &cell, first, second, TIMES);
+    let (pass, made) = ticked_by_two(&rt, &cell, first, second, TIMES);
+    made?;
     let history = cell.close(pass).into_history();
     assert!(rt; history.len() == 2000);
     for who in [FIRST, SECOND] {
@@ -126,6 +128,8 @@ fn two_threads_look_while_two_submit_and_cancel(rt: HostRuntime) -> Result<(), F
         let (first, second) = lookers;
         let lookers = (looker(rt.alloc(), first)?, looker(rt.alloc(), second)?);
         let (lookers, others) = looked_at_meanwhile(&rt, &cell, lookers, callers, LOOKS, CALLS);
+        let (others, made) = others;
+        made?;
         let (history, first, second) = closed_after_looks(cell, lookers, others, 0);
         assert!(rt; (history.len(), first.len(), second.len()) == (1_000, 20_000, 20_000));
         let flags = flags_after_each(rt.alloc(), &history)?;

@@ -15,6 +15,7 @@ pub mod Fits
 pub mod FitsStill
 pub mod Ranges
 pub mod Families
+pub mod Crossing
 pub mod Between
 pub mod ShownSteps
 pub mod Looking

@@ -1,17 +1,21 @@
 -- What is known while the attempts of a player are made in order.
-use Rattle.std.proofs.Common.{◌≡◌, ◌⊎◌, inl, inr, ℕ, get_or, zero, suc, ◌+◌, ◌-◌, ◌^◌, ◌<◌, ◌≤◌, Bool, Option, Some, None, Result, Ok, Err, List, length, sym, ap, subst, ◌∙◌, arith}
+use Rattle.std.proofs.Common.{◌≡◌, ◌⊎◌, inl, inr, ℕ, get_or, zero, suc, ◌+◌, ◌-◌, ◌^◌, ◌<◌, ◌≤◌, Bool, false, Option, Some, None, Result, Ok, Err, List, length, sym, ap, subst, ◌∙◌, arith}
 use Rattle.std.specs.List.{slice_get}
+use Rattle.std.specs.Result.{OnErr}
 use Rattle.std.proofs.lemmas.Option.{slice_get_cases}
 use Rattle.zk_base.specs.declared.ids.Who.{Who}
 use Rattle.zk_base.specs.declared.errors.NoMemory.{NoMemory}
 use Rattle.zk_base.specs.Causes.{Rose}
 use Rattle.zk_base.proofs.Causes.{Rose-from}
+use Rattle.zk_scenario.specs.Content.{Content}
 use Rattle.zk_worker.specs.declared.steps.Step.{Step}
 use Rattle.zk_worker.specs.declared.steps.StepReply.{StepReply}
 use Rattle.zk_worker.specs.Machines.{Machines}
 use Rattle.zk_worker.specs.Shown.{Shown, OnlyOthersCame}
 use Rattle.zk_worker.specs.Attempt.{Counts, NoneFell, IsMade, reply_in, Attempted}
-use Rattle.zk_worker.specs.Playing.{WasTried, WereTried, WasFirst, WasNone, made_of, Tried}
+use Rattle.zk_worker.specs.Places.{PlayerPlace}
+use Rattle.zk_worker.specs.Protocol.{attempts}
+use Rattle.zk_worker.specs.Playing.{HasWanted, WasTried, WereTried, WasFirst, WasNone, made_of, Tried}
 use Rattle.zk_worker.proofs.Between.{between-none, between-both}
 
 -- a count that rose has risen still when none fell since
@@ -163,3 +167,10 @@ pub tried-with : (alone : Bool) (m : Machines) (who : Who) (number : ℕ) (ahead
     put ≡ Some step → WasFirst alone m who number ahead step reply old new counts counts' → Tried alone m who number ahead old new counts counts' (made_of (Some reply) put)
 tried-with alone m who number ahead old new counts counts' put step reply was first =
     subst (λ (o : Option (Step × StepReply)). Tried alone m who number ahead old new counts counts' o) (sym (ap (λ (o : Option Step). made_of (Some reply) o) was)) first
+
+-- an attempt that wanted memory is told of the machines and the player as they were
+pub wanted-there : (wants_none : Machines → Shown → Who → Step → Bool) (m m' : Machines) (shown : Shown) (who : Who) (s : Content) (at : PlayerPlace) (step : Step) (result : Result (Option StepReply) NoMemory) (k : ℕ) →
+    m' ≡ m → who ≡ at.who → slice_get (attempts s at) k ≡ Some step → wants_none m' shown who step ≡ false → OnErr result (HasWanted wants_none m shown s at)
+wanted-there wants_none m m' shown who s at step (Ok reply) k same player there wanted = tt
+wanted-there wants_none m m' shown who s at step (Err e) k same player there wanted =
+    (step, (k, there), sym (ap (λ (m : Machines). wants_none m shown who step) same ∙ ap (λ (w : Who). wants_none m shown w step) player) ∙ wanted)

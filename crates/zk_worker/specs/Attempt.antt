@@ -1,4 +1,4 @@
-use Rattle.std.specs.Prelude.{◌≡◌, ℕ, ◌-◌, ◌^◌, ◌≤◌, Bool, false, Option, Some, None, is_some, Result, Ok, Err, length, slice_get, option_map}
+use Rattle.std.specs.Prelude.{◌≡◌, ℕ, ◌-◌, ◌^◌, ◌≤◌, Bool, false, Option, Some, None, is_some, Result, Ok, Err, [], set, length, slice_get, option_map}
 use Rattle.std.specs.Option.{option_map_or}
 use Rattle.zk_base.specs.declared.ids.Who.{Who}
 use Rattle.zk_base.specs.declared.errors.NoMemory.{NoMemory}
@@ -63,20 +63,25 @@ Counts = Step → ℕ
 abbrev pub NoneFell : Counts → Counts → Type 0
 NoneFell old new = (step : Step) → (old step ≤ new step) × (new step ≤ 2 ^ 64 - 1)
 
--- of all that is shown only the history of a step's service may have changed, and for a look the looks there
+-- what is shown elsewhere than at the object of a step: there is nothing of its history here, nor of what a look adds to
+abbrev pub elsewhere : Step → Shown → Shown
+elsewhere (steps.Work op) shown = record shown { work = [] }
+elsewhere (steps.Clock op) shown = record shown { clock = [] }
+elsewhere (steps.Table op) shown = record shown { table = [] }
+elsewhere (steps.Sem object op) shown = record shown { sems = set shown.sems object [] }
+elsewhere (steps.Msgq object op) shown = record shown { msgqs = set shown.msgqs object [] }
+elsewhere (steps.Signal object op) shown = record shown { signals = set shown.signals object [] }
+elsewhere (steps.Chan object op) shown = record shown { chans = set shown.chans object [] }
+elsewhere (steps.Obs object op) shown = record shown { observers = set shown.observers object [] }
+elsewhere (steps.LookItem object) shown = record shown { work = []; looked = None }
+elsewhere (steps.LookSignal object must) shown = record shown {
+  signals = set shown.signals object [];
+  looks = option_map (λ looks. set looks object []) shown.looks;
+}
+
+-- an attempt at a step leaves all that is shown elsewhere as it was
 abbrev pub KeepsElsewhere : Step → Shown → Shown → Type 0
-KeepsElsewhere (steps.Work op) old new = new ≡ record old { work = new.work }
-KeepsElsewhere (steps.Clock op) old new = new ≡ record old { clock = new.clock }
-KeepsElsewhere (steps.Table op) old new = new ≡ record old { table = new.table }
-KeepsElsewhere (steps.Sem object op) old new = new ≡ record old { sems = new.sems }
-KeepsElsewhere (steps.Msgq object op) old new = new ≡ record old { msgqs = new.msgqs }
-KeepsElsewhere (steps.Signal object op) old new = new ≡ record old { signals = new.signals }
-KeepsElsewhere (steps.Chan object op) old new = new ≡ record old { chans = new.chans }
-KeepsElsewhere (steps.Obs object op) old new = new ≡ record old { observers = new.observers }
-KeepsElsewhere (steps.LookItem object) old new =
-    new ≡ record old { work = new.work; looked = new.looked }
-KeepsElsewhere (steps.LookSignal object must) old new =
-    new ≡ record old { signals = new.signals; looks = new.looks }
+KeepsElsewhere step old new = elsewhere step new ≡ elsewhere step old
 
 -- a look at a signal reads at the end of what is shown: its stamp is the number of writes; other steps say nothing of it
 abbrev pub ReadsAt : Shown → Step → StepReply → Type 0

@@ -3,7 +3,7 @@ use Rattle.std.specs.List.{AllZip}
 use Rattle.std.specs.Option.{option_map_or}
 use Rattle.zk_base.specs.declared.ids.Who.{Who}
 use Rattle.zk_base.specs.declared.ids.Entry.{Entry}
-use Rattle.zk_base.specs.Legal.{Machine}
+use Rattle.zk_base.specs.Legal.{Machine, state_after}
 use Rattle.zk_line.specs.declared.types.Decl.{Decl}
 use Rattle.zk_worker.specs.declared.steps.StepReply.{StepReply}
 use Rattle.zk_worker.specs.Single.{answer_in, OthersGrew}
@@ -46,6 +46,14 @@ answer_at family histories step_reply who object op =
     option_and_then (λ start.
     option_and_then (λ h. answer_in family.machine start h (step_reply object) who op)
     (slice_get histories object)) (start_of family object)
+
+-- whether an operation at an object gives an entry whose room an earlier one took
+abbrev pub closes_at : {S O R : Type 0} → (S → Who → O → Bool) → Family S O R → List (List (Entry O R)) →
+    Who → ℕ → O → Bool
+closes_at closes family histories who object op =
+    option_map_or (λ start.
+    option_map_or (λ h. closes (state_after family.machine start h) who op) (slice_get histories object) false)
+    (start_of family object) false
 
 -- whether an object is of the kind, and the ids in an operation are in range there
 abbrev pub takes_at : {S O R : Type 0} → Family S O R → ℕ → O → Bool

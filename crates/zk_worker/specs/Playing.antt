@@ -8,7 +8,7 @@ use Rattle.zk_worker.specs.declared.steps.StepReply.{StepReply}
 use Rattle.zk_worker.specs.declared.playing.Stepped.{Stepped}
 use Rattle.zk_worker.specs.declared.playing.Stepped.TheVariants.{Did, NotYet, Ended, Spent}
 use Rattle.zk_worker.specs.Places.{PlayerPlace}
-use Rattle.zk_worker.specs.Protocol.{attempts, after}
+use Rattle.zk_worker.specs.Protocol.{attempts, after, IsAhead}
 use Rattle.zk_worker.specs.Follows.{is_spent_at, is_through}
 use Rattle.zk_worker.specs.Machines.{Machines}
 use Rattle.zk_worker.specs.Shown.{Shown, OnlyOthersCame}
@@ -23,6 +23,11 @@ pub record WasTried (alone : Bool) (m : Machines) (who : Who) (old new : Shown)
   pub until : OnlyOthersCame alone who.number found new
   pub impossible : reply_in m found who step ≡ None
   pub rose : Rose (counts step) (counts' step)
+
+-- one of a player's next attempts wanted memory, and none that wants none where this is shown
+abbrev pub HasWanted : (Machines → Shown → Who → Step → Bool) → Machines → Shown → Content → PlayerPlace → Type 0
+HasWanted wants_none m shown s at =
+    (step : Step) × IsAhead s at step × (wants_none m shown at.who step ≡ false)
 
 -- so many of these attempts, from the first, were tried
 abbrev pub WereTried : Bool → Machines → Who → List Step → ℕ → Shown → Shown → Counts → Counts →

@@ -8,7 +8,7 @@ ghost use Rattle.zk_worker.specs.Machines.{machines_of};
 ghost use Rattle.zk_worker.specs.Shown.{ShowsLog, AreShort, OnlyOthersCame};
 ghost use Rattle.zk_worker.specs.Right.{LooksRight};
 ghost use Rattle.zk_worker.specs.Attempt.{is_in_range, SamePlayers};
-ghost use Rattle.zk_worker.specs.Playing.{made_of, Tried, StepOutcome};
+ghost use Rattle.zk_worker.specs.Playing.{made_of, HasWanted, Tried, StepOutcome};
 
 use crate::steps::MOST_ATTEMPTS;
 use crate::{Player, Services, Step, StepReply};
@@ -46,6 +46,8 @@ fn try_ahead<V: Services>(
         (V.shown services.old) (V.shown services.new) (V.counts services.old) (V.counts services.new) (made_of told ahead.new)) }
     ensures err { OnErr result (OnlyOthersCame (V.alone services.old) player.now.who.number
         (V.shown services.old) (V.shown services.new)) }
+    ensures memory { OnErr result (HasWanted V.wants_none (V.machines services.old) (V.shown services.new)
+        scenario.now player.now) }
     ensures machines { V.machines services.new ≡ V.machines services.old }
     ensures serves { SamePlayers (V.serves services.old) (V.serves services.new) }
     ensures alone { V.alone services.new ≡ V.alone services.old }
@@ -88,6 +90,8 @@ impl Player {
         ensures unchanged { OnErr result (self.new ≡ self.old) }
         ensures err { OnErr result (OnlyOthersCame (V.alone services.old) self.old.who.number
             (V.shown services.old) (V.shown services.new)) }
+        ensures memory { OnErr result (HasWanted V.wants_none (V.machines services.old) (V.shown services.new)
+            scenario.now self.old) }
 
         // After every answer it can be called again.
         ensures log { ShowsLog (V.shown services.new) self.new.who.number self.new.spots }

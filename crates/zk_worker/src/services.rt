@@ -1,9 +1,10 @@
-ghost use Rattle.std.specs.Prelude.{◌≡◌, ℕ, ◌<◌, Bool, true, None, IfOk};
+ghost use Rattle.std.specs.Prelude.{◌≡◌, ℕ, ◌<◌, Bool, true, false, None, IfOk, OnErr};
 ghost use Rattle.zk_base.specs.declared.ids.Who.{Who};
 ghost use Rattle.zk_base.specs.Causes.{Rose};
 ghost use Rattle.zk_scenario.specs.declared.scenario.TheConstants.{MOST_STEPS};
 ghost use Rattle.zk_worker.specs.Machines.{Machines};
 ghost use Rattle.zk_worker.specs.Shown.{Shown, IsLater, AreShort};
+ghost use Rattle.zk_worker.specs.declared.steps.Step.{Step};
 ghost use Rattle.zk_worker.specs.Attempt.{Counts, is_in_range, NoneFell, SamePlayers, Attempted, KeepsElsewhere};
 
 use crate::{Step, StepReply};
@@ -29,6 +30,9 @@ pub trait Services {
     /// What they show: the history of each service, and the looks where they show those.
     ghost shown: { Self → Shown };
 
+    /// Whether a step wants no memory where this is shown: it ends what an earlier one began, which took the room for both.
+    ghost wants_none: { Machines → Shown → Who → Step → Bool };
+
     /// How many attempts were made at the service of each step, as far as they are counted.
     ghost counts: { Self → Counts };
 
@@ -47,8 +51,11 @@ pub trait Services {
         ensures attempted { Attempted (alone self.old) (machines self.old) who number step.now
             (shown self.old) (shown self.new) result }
 
-        // All that comes, entries of others too, comes at the service of the step.
+        // All that comes, entries of others too, comes at the object of the step.
         ensures elsewhere { KeepsElsewhere step.now (shown self.old) (shown self.new) }
+
+        // A step that wants no memory is refused none.
+        ensures memory { OnErr result (wants_none (machines self.old) (shown self.new) who step.now ≡ false) }
 
         // The counts, with the one of an attempt that wasn't possible.
         ensures counts { NoneFell (counts self.old) (counts self.new) }

@@ -2,7 +2,7 @@ use Rattle.std.proofs.Common.{◌+◌, Some, get_or, sym, ap, subst, ◌∙◌, 
 use Rattle.zk_base.specs.Legal.{IsLegal}
 use Rattle.zk_visit.specs.Seats.{seen_at, holds_at}
 use Rattle.zk_cells.specs.Rows.{IsSeat}
-use Rattle.zk_cells.proofs.Rowing.{taken-there, taken-one, cell-of, as_many, there, seat-there, seats-set, seen-there, holds-there, holds-new, holds-still, visited-among, memory-among}
+use Rattle.zk_cells.proofs.Rowing.{taken-there, taken-one, cell-of, as_many, there, seat-there, seats-set, seen-there, holds-there, holds-new, holds-still, seen-others, visited-among, memory-among}
 use Rattle.zk_cells.proofs.at_cells.visit_at.Goals as goal
 
 pub index_mut-requires : goal.index_mut-requires
@@ -59,6 +59,9 @@ returns-clause-holds g c =
     let within = taken-there g.S.Service.machine g.S.Service.start c.args.cells.now c.args.object c.args.op c.requires.taken in
     let old = holds-there c.args.seats.now.items c.args.object c.index_mut.result.now (omega arith) ∙ ap holds_at (sym c.index_mut.ensures.value) in
     holds-new c.args.seats.now.items c.args.object c.visit_one.new.seat (omega arith) ∙ c.visit_one.ensures.holds ∙ ap (λ n. n + 1) (sym old)
+
+pub returns-clause-kept : goal.returns-clause-kept
+returns-clause-kept g c = seen-others c.args.seats.now.items c.args.object c.visit_one.new.seat
 
 pub returns-clause-others : goal.returns-clause-others
 returns-clause-others g c = λ i else. holds-still c.args.seats.now.items c.args.object i c.visit_one.new.seat else

@@ -4,7 +4,7 @@ use Rattle.zk_cells.specs.Signals.{WroteAmong, FoundAmong}
 use Rattle.zk_worker.proofs.Between.{above-work}
 use Rattle.zk_cells.proofs.Attempts.{item-has-word, looked-item}
 use Rattle.zk_cells.proofs.SignalSteps.{few-noted}
-use Rattle.zk_cells.proofs.Quickly.{attempted-write, kept-write, served-write, fell-write, attempted-looked, kept-look, served-look, fell-look, rose-look, clear-look, kept-item, fell-item, served-item}
+use Rattle.zk_cells.proofs.Quickly.{attempted-write, kept-write, served-write, fell-write, attempted-looked, kept-look, served-look, fell-look, rose-look, once-look, clear-look, kept-item, fell-item, served-item}
 use Rattle.zk_cells.proofs.quick.quick_attempt.Goals as goal
 
 pub write_at-stamp-requires-clause-few : goal.write_at-stamp-requires-clause-few
@@ -62,6 +62,12 @@ returns-in-LookSignal-clause-rose c = λ none.
     let l = c.look_at-seen in
     let found = subst (λ ss. FoundAmong ss c.in-LookSignal.object l.result c.args.passes.now.signals.items l.new.passes.items) c.deref-in-LookSignal.ensures.value l.ensures.found in
     rose-look c.args.cells.now c.args.passes.now c.args.who c.args.number c.in-LookSignal.object c.in-LookSignal.must l.result l.new.passes c.requires.served found _ c.in-LookSignal.is
+
+pub returns-in-LookSignal-clause-once : goal.returns-in-LookSignal-clause-once
+returns-in-LookSignal-clause-once c = λ none.
+    let l = c.look_at-seen in
+    let found = subst (λ ss. FoundAmong ss c.in-LookSignal.object l.result c.args.passes.now.signals.items l.new.passes.items) c.deref-in-LookSignal.ensures.value l.ensures.found in
+    once-look c.args.cells.now c.args.passes.now c.args.who c.args.number c.in-LookSignal.object c.in-LookSignal.must l.result l.new.passes c.requires.served found _ c.in-LookSignal.is
 
 pub returns-in-LookSignal-clause-none : goal.returns-in-LookSignal-clause-none
 returns-in-LookSignal-clause-none c = λ none.

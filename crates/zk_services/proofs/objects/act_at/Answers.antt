@@ -5,7 +5,7 @@ use Rattle.zk_worker.specs.declared.steps.StepReply.{StepReply}
 use Rattle.zk_base.specs.History.{extended}
 use Rattle.zk_worker.specs.Families.{answer_at}
 use Rattle.zk_services.specs.Objects.{starts_of, history_of, histories_of, made_of}
-use Rattle.zk_services.proofs.Among.{taken-there, slot-there, taken-one, history-there, answered-one, histories-made, histories-same, starts-same}
+use Rattle.zk_services.proofs.Among.{taken-there, slot-there, taken-one, history-there, answered-one, histories-made, histories-same, starts-same, histories-others, closes-one}
 use Rattle.zk_services.proofs.objects.act_at.Goals as goal
 
 pub index_mut-requires : goal.index_mut-requires
@@ -76,6 +76,19 @@ returns-clause-err g c =
     let slot = c.index_mut.result.now in
     let there = slot-there g.S.Service.machine start history objects c.args.object slot c.args.op c.requires.taken c.index_mut.ensures.value in
     on_err_weaker c.act_one.result (histories-same g.S.Service.machine start history objects c.args.object slot c.act_one.new.slot there) c.act_one.ensures.err
+
+pub returns-clause-memory : goal.returns-clause-memory
+returns-clause-memory g c =
+    let start = g.S.Service.start in
+    let history = g.S.Service.history in
+    let objects = c.args.objects.now.items in
+    let slot = c.index_mut.result.now in
+    let there = slot-there g.S.Service.machine start history objects c.args.object slot c.args.op c.requires.taken c.index_mut.ensures.value in
+    on_err_weaker c.act_one.result (λ none. closes-one g.S.Service.machine start history g.S.Service.closes objects c.args.object slot c.args.who c.args.op there ∙ none) c.act_one.ensures.memory
+
+pub returns-clause-others : goal.returns-clause-others
+returns-clause-others g c =
+    histories-others g.S.Service.machine g.S.Service.start g.S.Service.history c.args.objects.now.items c.args.object c.act_one.new.slot
 
 pub returns-clause-start : goal.returns-clause-start
 returns-clause-start g c =

@@ -3,7 +3,7 @@ use Rattle.zk_base.specs.declared.ids.Who.{Who}
 use Rattle.zk_worker.specs.Protocol.{attempts}
 use Rattle.zk_worker.specs.Shown.{IsLater}
 use Rattle.zk_worker.proofs.Between.{between-none, between-both, log-still, log-later}
-use Rattle.zk_worker.proofs.Trying.{attempted-some, attempted-none, attempted-err, tried-next, first-made, none-left, none-behind, tried-with}
+use Rattle.zk_worker.proofs.Trying.{attempted-some, attempted-none, attempted-err, tried-next, first-made, none-left, none-behind, tried-with, wanted-there}
 use Rattle.zk_worker.proofs.Limits.{attempts-few}
 use Rattle.zk_worker.proofs.playing.try_ahead.Goals as goal
 
@@ -43,6 +43,11 @@ returns-in_err-reply-clause-err g c =
     let others = between-both _ _ _ _ _ was.others
     (attempted-err _ _ _ _ _ _ _ _ c.in-Some.step _ _ _ was.alone was.machines c.who.ensures c.steps.ensures.count c.in_err-reply.ensures.attempted) in
     search rules
+
+pub returns-in_err-reply-clause-memory : goal.returns-in_err-reply-clause-memory
+returns-in_err-reply-clause-memory g c =
+    wanted-there g.V.Services.wants_none _ _ _ _ c.args.scenario.now c.args.player.now c.in-Some.step c.from_residual.result c.loop-index.index c.loop-index.invariant.machines c.who.ensures
+    (sym c.put_ahead.ensures ∙ c.in-Some.is) c.in_err-reply.ensures.memory
 
 pub loop-index-preserved : goal.loop-index-preserved
 loop-index-preserved g c =

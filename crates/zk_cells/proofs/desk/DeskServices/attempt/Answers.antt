@@ -1,4 +1,4 @@
-use Rattle.std.proofs.Common.{rules, ◌≡◌, ℕ, false, Ok, refl, subst, arith}
+use Rattle.std.proofs.Common.{rules, ◌≡◌, ℕ, false, Ok, refl, ap, subst, arith}
 use Rattle.std.specs.Option.{option_map}
 use Rattle.zk_model_wait.specs.Clock.{clock_machine}
 use Rattle.zk_model_wait.specs.Sem.{sem_machine, sem_closes}
@@ -24,13 +24,15 @@ use Rattle.zk_work.specs.Seen.{work_start}
 use Rattle.zk_turn.specs.Passes.{given_to}
 use Rattle.zk_worker.specs.declared.steps.Step.TheVariants as steps
 use Rattle.zk_worker.specs.declared.steps.StepReply.TheVariants as step_replies
+use Rattle.zk_worker.specs.Families.{closes_at}
 use Rattle.zk_worker.proofs.Between.{above-work, above-clock, above-table, above-sems, above-msgqs, above-chans, above-observers}
-use Rattle.zk_cells.specs.Desks.{cells_machines, desk_shown}
-use Rattle.zk_visit.specs.Seats.{seen_at}
+use Rattle.zk_cells.specs.Desks.{cells_machines, desk_shown, desk_counts}
+use Rattle.zk_visit.specs.Seats.{seen_at, holds_at}
 use Rattle.zk_base.specs.Legal.{IsLegal}
-use Rattle.zk_cells.specs.Rows.{family, seen_all, closes_at, AreSeats, VisitedAt}
-use Rattle.zk_cells.proofs.Attempts.{attempted-one, attempted-many, when-err, none-wanted}
+use Rattle.zk_cells.specs.Rows.{family, seen_all, holds_in, AreSeats, VisitedAt}
+use Rattle.zk_cells.proofs.Attempts.{attempted-one, attempted-many, when-err, none-wanted, kept-elsewhere, counted-once}
 use Rattle.zk_cells.proofs.Desks.{same-players, grows-work, grows-clock, grows-table, grows-sems, grows-msgqs, grows-chans, grows-observers}
+use Rattle.zk_cells.proofs.SignalSteps.{capped-once}
 use Rattle.zk_cells.proofs.desk.DeskServices.attempt.Goals as goal
 
 pub visit-requires-clause-at : goal.visit-requires-clause-at
@@ -317,3 +319,78 @@ returns-in_err-made-in-Obs-clause-memory g c =
     none-wanted (cells_machines c.args.self.now.cells.now) (desk_shown (record c.args.self.now.passes { observers = seats })) c.args.who (steps.Obs object c.in-Obs.op) c.args.step.now
     c.from_residual-in_err-made-in-Obs.result c.in-Obs.is
     (subst (λ cs. closes_at (λ s who op. obs_closes op) (family obs_machine obs_start cs) (seen_all seats.items) c.args.who object c.in-Obs.op ≡ false) c.deref-in-Obs.ensures.value c.in_err-made-in-Obs.ensures.memory)
+
+pub returns-in_err-made-in-Sem-clause-elsewhere : goal.returns-in_err-made-in-Sem-clause-elsewhere
+returns-in_err-made-in-Sem-clause-elsewhere g c =
+    kept-elsewhere (steps.Sem c.in-Sem.object c.in-Sem.op) c.args.step.now _ _ c.in-Sem.is
+    (ap (λ hs. record (desk_shown c.args.self.now.passes) { sems = hs }) c.visit_at.ensures.kept)
+
+pub returns-in_ok-made-in-Sem-clause-elsewhere : goal.returns-in_ok-made-in-Sem-clause-elsewhere
+returns-in_ok-made-in-Sem-clause-elsewhere g c =
+    kept-elsewhere (steps.Sem c.in-Sem.object c.in-Sem.op) c.args.step.now _ _ c.in-Sem.is
+    (ap (λ hs. record (desk_shown c.args.self.now.passes) { sems = hs }) c.visit_at.ensures.kept)
+
+pub returns-in_err-made-in-Msgq-clause-elsewhere : goal.returns-in_err-made-in-Msgq-clause-elsewhere
+returns-in_err-made-in-Msgq-clause-elsewhere g c =
+    kept-elsewhere (steps.Msgq c.in-Msgq.object c.in-Msgq.op) c.args.step.now _ _ c.in-Msgq.is
+    (ap (λ hs. record (desk_shown c.args.self.now.passes) { msgqs = hs }) c.visit_at-in-Msgq.ensures.kept)
+
+pub returns-in_ok-made-in-Msgq-clause-elsewhere : goal.returns-in_ok-made-in-Msgq-clause-elsewhere
+returns-in_ok-made-in-Msgq-clause-elsewhere g c =
+    kept-elsewhere (steps.Msgq c.in-Msgq.object c.in-Msgq.op) c.args.step.now _ _ c.in-Msgq.is
+    (ap (λ hs. record (desk_shown c.args.self.now.passes) { msgqs = hs }) c.visit_at-in-Msgq.ensures.kept)
+
+pub returns-in_err-made-in-Chan-clause-elsewhere : goal.returns-in_err-made-in-Chan-clause-elsewhere
+returns-in_err-made-in-Chan-clause-elsewhere g c =
+    kept-elsewhere (steps.Chan c.in-Chan.object c.in-Chan.op) c.args.step.now _ _ c.in-Chan.is
+    (ap (λ hs. record (desk_shown c.args.self.now.passes) { chans = hs }) c.visit_at-in-Chan.ensures.kept)
+
+pub returns-in_ok-made-in-Chan-clause-elsewhere : goal.returns-in_ok-made-in-Chan-clause-elsewhere
+returns-in_ok-made-in-Chan-clause-elsewhere g c =
+    kept-elsewhere (steps.Chan c.in-Chan.object c.in-Chan.op) c.args.step.now _ _ c.in-Chan.is
+    (ap (λ hs. record (desk_shown c.args.self.now.passes) { chans = hs }) c.visit_at-in-Chan.ensures.kept)
+
+pub returns-in_err-made-in-Obs-clause-elsewhere : goal.returns-in_err-made-in-Obs-clause-elsewhere
+returns-in_err-made-in-Obs-clause-elsewhere g c =
+    kept-elsewhere (steps.Obs c.in-Obs.object c.in-Obs.op) c.args.step.now _ _ c.in-Obs.is
+    (ap (λ hs. record (desk_shown c.args.self.now.passes) { observers = hs }) c.visit_at-in-Obs.ensures.kept)
+
+pub returns-in_ok-made-in-Obs-clause-elsewhere : goal.returns-in_ok-made-in-Obs-clause-elsewhere
+returns-in_ok-made-in-Obs-clause-elsewhere g c =
+    kept-elsewhere (steps.Obs c.in-Obs.object c.in-Obs.op) c.args.step.now _ _ c.in-Obs.is
+    (ap (λ hs. record (desk_shown c.args.self.now.passes) { observers = hs }) c.visit_at-in-Obs.ensures.kept)
+
+pub returns-in_ok-made-in-Work-clause-once : goal.returns-in_ok-made-in-Work-clause-once
+returns-in_ok-made-in-Work-clause-once g c = λ none.
+    counted-once (steps.Work c.in-Work.op) c.args.step.now (desk_counts c.args.self.now.passes) (desk_counts (record c.args.self.now.passes { work = c.visit.new.seat })) c.in-Work.is
+    (capped-once (holds_at c.args.self.now.passes.work) (holds_at c.visit.new.seat) c.visit.ensures.holds)
+
+pub returns-in_ok-made-in-Clock-clause-once : goal.returns-in_ok-made-in-Clock-clause-once
+returns-in_ok-made-in-Clock-clause-once g c = λ none.
+    counted-once (steps.Clock c.in-Clock.op) c.args.step.now (desk_counts c.args.self.now.passes) (desk_counts (record c.args.self.now.passes { clock = c.visit-in-Clock.new.seat })) c.in-Clock.is
+    (capped-once (holds_at c.args.self.now.passes.clock) (holds_at c.visit-in-Clock.new.seat) c.visit-in-Clock.ensures.holds)
+
+pub returns-in_ok-made-in-Table-clause-once : goal.returns-in_ok-made-in-Table-clause-once
+returns-in_ok-made-in-Table-clause-once g c = λ none.
+    counted-once (steps.Table c.in-Table.op) c.args.step.now (desk_counts c.args.self.now.passes) (desk_counts (record c.args.self.now.passes { table = c.visit-in-Table.new.seat })) c.in-Table.is
+    (capped-once (holds_at c.args.self.now.passes.table) (holds_at c.visit-in-Table.new.seat) c.visit-in-Table.ensures.holds)
+
+pub returns-in_ok-made-in-Sem-clause-once : goal.returns-in_ok-made-in-Sem-clause-once
+returns-in_ok-made-in-Sem-clause-once g c = λ none.
+    counted-once (steps.Sem c.in-Sem.object c.in-Sem.op) c.args.step.now (desk_counts c.args.self.now.passes) (desk_counts (record c.args.self.now.passes { sems = c.visit_at.new.seats })) c.in-Sem.is
+    (capped-once (holds_in c.args.self.now.passes.sems.items c.in-Sem.object) (holds_in c.visit_at.new.seats.items c.in-Sem.object) c.visit_at.ensures.holds)
+
+pub returns-in_ok-made-in-Msgq-clause-once : goal.returns-in_ok-made-in-Msgq-clause-once
+returns-in_ok-made-in-Msgq-clause-once g c = λ none.
+    counted-once (steps.Msgq c.in-Msgq.object c.in-Msgq.op) c.args.step.now (desk_counts c.args.self.now.passes) (desk_counts (record c.args.self.now.passes { msgqs = c.visit_at-in-Msgq.new.seats })) c.in-Msgq.is
+    (capped-once (holds_in c.args.self.now.passes.msgqs.items c.in-Msgq.object) (holds_in c.visit_at-in-Msgq.new.seats.items c.in-Msgq.object) c.visit_at-in-Msgq.ensures.holds)
+
+pub returns-in_ok-made-in-Chan-clause-once : goal.returns-in_ok-made-in-Chan-clause-once
+returns-in_ok-made-in-Chan-clause-once g c = λ none.
+    counted-once (steps.Chan c.in-Chan.object c.in-Chan.op) c.args.step.now (desk_counts c.args.self.now.passes) (desk_counts (record c.args.self.now.passes { chans = c.visit_at-in-Chan.new.seats })) c.in-Chan.is
+    (capped-once (holds_in c.args.self.now.passes.chans.items c.in-Chan.object) (holds_in c.visit_at-in-Chan.new.seats.items c.in-Chan.object) c.visit_at-in-Chan.ensures.holds)
+
+pub returns-in_ok-made-in-Obs-clause-once : goal.returns-in_ok-made-in-Obs-clause-once
+returns-in_ok-made-in-Obs-clause-once g c = λ none.
+    counted-once (steps.Obs c.in-Obs.object c.in-Obs.op) c.args.step.now (desk_counts c.args.self.now.passes) (desk_counts (record c.args.self.now.passes { observers = c.visit_at-in-Obs.new.seats })) c.in-Obs.is
+    (capped-once (holds_in c.args.self.now.passes.observers.items c.in-Obs.object) (holds_in c.visit_at-in-Obs.new.seats.items c.in-Obs.object) c.visit_at-in-Obs.ensures.holds)

@@ -1,12 +1,13 @@
 use Rattle.std.proofs.Common.{false, Option, sym, ap, subst, ◌∙◌}
-use Rattle.std.specs.Prelude.{IfOk}
+use Rattle.std.specs.Prelude.{IfOk, OnErr}
 use Rattle.zk_base.specs.declared.ids.Who.{Who}
 use Rattle.zk_scenario.specs.Content.{Content}
 use Rattle.zk_worker.specs.Machines.{Machines, machines_of}
-use Rattle.zk_worker.specs.Playing.{StepOutcome}
+use Rattle.zk_worker.specs.Playing.{HasWanted, StepOutcome}
 use Rattle.zk_cells.specs.declared.cells.Cells.{Cells}
 use Rattle.zk_cells.specs.declared.passes.Passes.{Passes}
 use Rattle.zk_cells.specs.Desks.{cells_machines, IsServed, desk_shown, desk_counts}
+use Rattle.zk_cells.specs.Memory.{wants_none}
 use Rattle.zk_kernel.specs.Callers.{IsAtDesk, shown_by, counts_by}
 use Rattle.zk_kernel.proofs.Callers.{same-who, still-sound}
 use Rattle.zk_kernel.proofs.caller.Caller.step.Goals as goal
@@ -54,3 +55,13 @@ returns-clause-does g c =
     let there = subst (λ (m : Machines). IfOk c.step-stepped.result (λ stepped. StepOutcome false m k.scenario at made (desk_shown old) (desk_shown new) (desk_counts old) (desk_counts new) stepped)) machines does in
     subst (λ (o : Option Passes). IfOk c.step-stepped.result (λ stepped. StepOutcome false (machines_of k.scenario) k.scenario at made (shown_by o) (desk_shown new) (counts_by o) (desk_counts new) stepped))
     (sym (sym c.take.ensures.value ∙ c.in-Some.is)) there
+
+pub returns-clause-memory : goal.returns-clause-memory
+returns-clause-memory g c =
+    let k = c.args.kernel.now in
+    let at = c.args.self.now.player in
+    let new = c.step-stepped.new.services.passes in
+    let cells = c.cells-cells.result.now in
+    let machines = ap cells_machines c.cells-cells.ensures.cells ∙ c.cells-cells.ensures.made.machines in
+    let wanted = subst (λ (s : Content). OnErr c.step-stepped.result (HasWanted wants_none (cells_machines cells) (desk_shown new) s at)) c.scenario.ensures.scenario c.step-stepped.ensures.memory in
+    subst (λ (m : Machines). OnErr c.step-stepped.result (HasWanted wants_none m (desk_shown new) k.scenario at)) machines wanted

@@ -1,4 +1,4 @@
-use Rattle.std.proofs.Common.{◌≡◌, ℕ, refl, ◌<◌, List, length, rules}
+use Rattle.std.proofs.Common.{◌≡◌, ℕ, false, sym, subst, refl, ◌<◌, List, length, rules, ap}
 use Rattle.std.specs.Option.{option_map}
 use Rattle.zk_base.specs.Limits.{most_entries}
 use Rattle.zk_base.specs.declared.ids.Entry.{Entry}
@@ -11,7 +11,9 @@ use Rattle.zk_worker.specs.declared.steps.Step.TheVariants as steps
 use Rattle.zk_worker.specs.declared.steps.StepReply.TheVariants as step_replies
 use Rattle.zk_services.specs.Alone.{plain_machines, plain_shown}
 use Rattle.zk_services.specs.Objects.{histories_of}
-use Rattle.zk_services.proofs.Among.{attempted-at}
+use Rattle.zk_model_wait.specs.Msgq.{msgq_closes}
+use Rattle.zk_worker.specs.Families.{closes_at}
+use Rattle.zk_services.proofs.Among.{attempted-at, when-wanted}
 use Rattle.zk_services.proofs.plain.Plain.attempt_msgq.Goals as goal
 
 pub act_at-requires-clause-later : goal.act_at-requires-clause-later
@@ -33,3 +35,14 @@ returns-clause-attempted c =
     attempted-at (plain_machines c.args.self.now) c.args.who c.args.number object op (steps.Msgq object op) (step_replies.Msgq object) old
     (λ hs. record old { msgqs = hs }) old.msgqs refl refl (λ r place. refl)
     (histories_of msgq_history c.act_at.new.objects.items) made.made _ _ (made.ensures.made step_replies.Msgq) made.ensures.entry refl told
+
+pub returns-in_err-made-clause-elsewhere : goal.returns-in_err-made-clause-elsewhere
+returns-in_err-made-clause-elsewhere c = ap (λ hs. record (plain_shown c.args.self.now) { msgqs = hs }) c.act_at.ensures.others
+
+pub returns-clause-elsewhere : goal.returns-clause-elsewhere
+returns-clause-elsewhere c = ap (λ hs. record (plain_shown c.args.self.now) { msgqs = hs }) c.act_at.ensures.others
+
+pub returns-in_err-made-clause-memory : goal.returns-in_err-made-clause-memory
+returns-in_err-made-clause-memory c =
+    when-wanted c.from_residual.result _
+    (subst (λ hs. closes_at (λ s who op. msgq_closes op) (plain_machines c.args.self.now).msgqs hs c.args.who c.args.object c.args.op.now ≡ false) (sym c.in_err-made.ensures.err) c.in_err-made.ensures.memory)

@@ -1,4 +1,4 @@
-use Rattle.std.proofs.Common.{◌≡◌, ℕ, refl, ◌<◌, List, length, rules}
+use Rattle.std.proofs.Common.{◌≡◌, ℕ, refl, ◌<◌, List, length, rules, ap}
 use Rattle.std.specs.Option.{option_map}
 use Rattle.zk_base.specs.Limits.{most_entries}
 use Rattle.zk_base.specs.declared.ids.Entry.{Entry}
@@ -33,3 +33,9 @@ returns-clause-attempted c =
     attempted-at (plain_machines c.args.self.now) c.args.who c.args.number object op (steps.Signal object op) (step_replies.Signal object) old
     (λ hs. record old { signals = hs }) old.signals refl refl (λ r place. refl)
     (histories_of signal_history c.act_at.new.objects.items) made.made _ _ (made.ensures.made step_replies.Signal) made.ensures.entry refl told
+
+pub returns-in_err-made-clause-elsewhere : goal.returns-in_err-made-clause-elsewhere
+returns-in_err-made-clause-elsewhere c = ap (λ hs. record (plain_shown c.args.self.now) { signals = hs }) c.act_at.ensures.others
+
+pub returns-clause-elsewhere : goal.returns-clause-elsewhere
+returns-clause-elsewhere c = ap (λ hs. record (plain_shown c.args.self.now) { signals = hs }) c.act_at.ensures.others
