@@ -24,7 +24,7 @@ all_calls =
     words.Submit ∷ words.Cancel ∷ words.CancelSync ∷ words.Flush ∷ words.Schedule ∷ words.Reschedule ∷ words.Remaining
     ∷ words.Busy ∷ words.Start ∷ words.Drain ∷ words.Unplug ∷ words.Tick
     ∷ words.Take ∷ words.Give ∷ words.Reset ∷ words.Count
-    ∷ words.Put ∷ words.Get ∷ words.Peek ∷ words.PeekAt ∷ words.Purge ∷ words.Used ∷ words.Free
+    ∷ words.Put ∷ words.PutFront ∷ words.Get ∷ words.Peek ∷ words.PeekAt ∷ words.Purge ∷ words.Used ∷ words.Free
     ∷ words.Raise ∷ words.Clear ∷ words.Check ∷ words.Poll
     ∷ words.Claim ∷ words.Finish ∷ words.Publish ∷ words.Notify ∷ words.Read ∷ words.Mask ∷ words.Enable ∷ words.SubWait
     ∷ words.Grant ∷ words.Release ∷ words.Revoke ∷ words.Public ∷ words.Init ∷ words.User ∷ []
@@ -42,6 +42,7 @@ refusals words.Start = Already ∷ []
 refusals words.Unplug = Already ∷ []
 refusals words.Take = Busy ∷ Again ∷ []
 refusals words.Put = NoMsg ∷ Again ∷ []
+refusals words.PutFront = NoMsg ∷ []
 refusals words.Get = NoMsg ∷ Again ∷ []
 refusals words.Peek = NoMsg ∷ []
 refusals words.PeekAt = NoMsg ∷ []
