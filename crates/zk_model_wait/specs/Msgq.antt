@@ -11,8 +11,8 @@ use Rattle.zk_model_wait.specs.declared.msgq.MsgqReply.{MsgqReply}
 use Rattle.zk_model_wait.specs.declared.msgq.MsgqReply.TheVariants.{Done, NoMsg, Wait, Again, Bytes, Number, Ready, NotReady, Armed, Noted, Plain}
 
 -- the state of a message queue: the most messages that it holds, the number of entries so far,
--- its messages, the one that is got next first, who waits to put one and to get one, and who is registered to be notified when there is one:
--- who is notified is decided with that
+-- its messages, the one that is got next first, who waits to put one and to get one, and who is registered to be notified when
+-- there is one: who is notified is decided with that
 pub record Msgq : Type 0 where
   pub most : ℕ
   pub entries : ℕ

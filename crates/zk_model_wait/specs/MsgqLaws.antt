@@ -48,7 +48,8 @@ abbrev pub moved_by : Waits (List ℕ) MsgqReply → List (Waiter (List ℕ)) �
 moved_by after [] = []
 moved_by after (w ∷ ws) = (if is_done_at w.place after then w.payload ∷ [] else []) ++ moved_by after ws
 
--- the messages that an entry accepts: that of a put that is done, in front or not, and those of the waiting puts that a get lets be done
+-- the messages that an entry accepts: that of a put that is done, in front or not, and those of the waiting puts that a get
+-- lets be done
 abbrev pub accepted : Msgq → Msgq → MsgqOp → MsgqReply → List (List ℕ)
 accepted before after (ops.Put message waits) Done = message ∷ []
 accepted before after (ops.PutFront message) Done = message ∷ []

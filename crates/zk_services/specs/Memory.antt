@@ -1,3 +1,4 @@
+-- Inner: no contract of a top call is made of this file.
 -- Which steps want no memory at plain services.
 use Rattle.std.specs.Prelude.{Bool, true, false}
 use Rattle.zk_base.specs.declared.ids.Who.{Who}

@@ -241,6 +241,10 @@ module _ (decls : List Decl) where
   count-suits r (inl is) = absurd is
   count-suits r (inr fits) = absurd fits
 
+  put_front-suits : (r : MsgqReply) → msgq_read.AnswersTo decls msgq_verbs.PutFront r → Suits decls words.PutFront (msgq_answer r)
+  put_front-suits r (inl is) = in-each (λ r. Suits decls words.PutFront (msgq_answer r)) (msgq_replies.Done ∷ msgq_replies.NoMsg ∷ []) (λ sized. inr (inr sized), (λ sized. inl (inl refl), tt)) r is
+  put_front-suits r (inr fits) = absurd fits
+
   peek-suits : (r : MsgqReply) → msgq_read.AnswersTo decls msgq_verbs.Peek r → Suits decls words.Peek (msgq_answer r)
   peek-suits r (inl is) = in-each (λ r. Suits decls words.Peek (msgq_answer r)) (msgq_replies.NoMsg ∷ []) (λ sized. inl (inl refl), tt) r is
   peek-suits (msgq_replies.Bytes message) (inr fits) = λ sized. inr (inr fits)
@@ -342,6 +346,8 @@ module _ (decls : List Decl) where
   call-suits (calls.Put object message timeout) stage k made reply suits ahead told =
       waits-suits decls (Wait (Put (ref_object object) message) timeout) (wait_progress words.Put stage reply)
       (wait-well decls (Any decls) words.Put (Put (ref_object object) message) (put-fits decls (ref_object object) message) timeout stage k made reply tt ahead told)
+  call-suits (calls.PutFront object message) stage k made reply suits ahead told =
+      one-suits words.PutFront (steps.Msgq (ref_object object) (msgq_ops.PutFront message)) stage k made reply (of-msgq (ref_object object) (msgq_ops.PutFront message) words.PutFront put_front-suits) ahead told
   call-suits (calls.Get object timeout) stage k made reply suits ahead told =
       waits-suits decls (Wait (Get (ref_object object)) timeout) (wait_progress words.Get stage reply)
       (wait-well decls (Any decls) words.Get (Get (ref_object object)) (get-fits decls (ref_object object)) timeout stage k made reply tt ahead told)

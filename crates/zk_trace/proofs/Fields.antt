@@ -29,13 +29,13 @@ use Rattle.zk_line.specs.declared.types.Decl.{Decl}
 use Rattle.zk_line.specs.Objects.{AreNames, name_at, number_of, object_of, is_thread, is_queue, is_chan, is_observer}
 use Rattle.zk_line.proofs.Options.{one_part}
 use Rattle.zk_trace.specs.Exact.{is_plain, IsPlain, IsUnfed, IsExact, IsExactRow}
-use Rattle.zk_trace.specs.Fields.{named, both, all_errnos, all_needs, all_whys, errno_of, need_of, why_of, oops_of, truth_of, waits_of, plug_of, state_of, flags_of, each_of, up_to, target_of, checked_of, thread_of, chan_of, observer_of, observers_of, behind, position_of, ready_of, queue_of, IsTarget, IsChecked, IsOf, IsMessage, AreObservers, ArePositions}
+use Rattle.zk_trace.specs.Fields.{named, both, all_errnos, all_needs, all_whys, errno_of, need_of, why_of, oops_of, truth_of, waits_of, plug_of, state_of, flags_of, each_of, up_to, target_of, checked_of, thread_of, chan_of, observer_of, observers_of, behind, narrow_of, ready_of, queue_of, IsTarget, IsChecked, IsOf, IsMessage, AreObservers, ArePositions}
 use Rattle.zk_trace.specs.Names.{target_name, checked_name, name_behind, names_word}
 use Rattle.zk_trace.specs.Parts.{each_behind}
 use Rattle.zk_trace.specs.Words.{errno_word, need_word, why_word, oops_front, oops_word, flags_word, truth_word, wait_word, position_text, ready_front, ready_word}
 use Rattle.zk_trace.proofs.Lines.{join-first}
 use Rattle.zk_trace.proofs.NameWords.{unnamed, unnamed_of, object_exact, object_named_exact, queue_exact}
-use Rattle.zk_trace.proofs.NumberWords.{fronted-again, fronted-spelled, position_exact}
+use Rattle.zk_trace.proofs.NumberWords.{fronted-again, fronted-spelled, narrow_exact}
 use Rattle.zk_trace.proofs.PlainWords.{IsOfWords, plain_by, lacks_is, lacks_plain, lacks-append, words-line, unfed-line}
 
 -- a word is a row of one
@@ -393,22 +393,22 @@ ready-line positions = ap (λ l. ready_front ++ l) (by positions) ∙ sym (join-
 pub ready_exact : IsExactRow ready_word ArePositions ready_of
 ready_exact = record { again = again; spelled = spelled; unfed = unfed } where
   words : (positions : List ℕ) → ArePositions positions → AllByRecursion IsPlain (ready_front ∷ map decimal positions)
-  words positions fits = (refl, each-plain decimal (λ p. p < 2 ^ 8) position_exact.plain positions fits.each)
+  words positions fits = (refl, each-plain decimal (λ p. p < 2 ^ 32) narrow_exact.plain positions fits.each)
 
   again : (positions : List ℕ) → ArePositions positions → ready_of (ready_word positions) ≡ Some positions
   again positions fits =
       ap ready_of (ready-line positions)
-      ∙ ap (λ ws. option_and_then (up_to MOST_EVENTS) (option_and_then (each_of position_of) (behind ready_front ws)))
+      ∙ ap (λ ws. option_and_then (up_to MOST_EVENTS) (option_and_then (each_of narrow_of) (behind ready_front ws)))
       (words-line ready_front (map decimal positions) (words positions fits))
-      ∙ ap (λ o. option_and_then (up_to MOST_EVENTS) (option_and_then (each_of position_of) o)) (behind-again ready_front (map decimal positions))
-      ∙ ap (option_and_then (up_to MOST_EVENTS)) (each-again position_exact.again position_exact.spelled positions fits.each)
+      ∙ ap (λ o. option_and_then (up_to MOST_EVENTS) (option_and_then (each_of narrow_of) o)) (behind-again ready_front (map decimal positions))
+      ∙ ap (option_and_then (up_to MOST_EVENTS)) (each-again narrow_exact.again narrow_exact.spelled positions fits.each)
       ∙ up_to-again MOST_EVENTS positions fits.few
 
   spelled : (row : List ℕ) (positions : List ℕ) → ready_of row ≡ Some positions → (row ≡ ready_word positions) × ArePositions positions
-  spelled row positions said = option_and_then_some (up_to MOST_EVENTS) (option_and_then (each_of position_of) (behind ready_front (words_of row))) positions said
-      (λ all read fits. option_and_then_some (each_of position_of) (behind ready_front (words_of row)) all read
+  spelled row positions said = option_and_then_some (up_to MOST_EVENTS) (option_and_then (each_of narrow_of) (behind ready_front (words_of row))) positions said
+      (λ all read fits. option_and_then_some (each_of narrow_of) (behind ready_front (words_of row)) all read
       (λ rest is each.
-      let found = each-spelled position_exact.again position_exact.spelled rest all each in
+      let found = each-spelled narrow_exact.again narrow_exact.spelled rest all each in
       let few = cond_some (nat_le (length all) MOST_EVENTS) all positions fits in
       subst (λ x. (row ≡ ready_word x) × ArePositions x) few.1 (
         sym (join_with_byte-slice_split space row) ∙ ap line_text (behind-spelled ready_front (words_of row) rest is ∙ ap (λ ws. ready_front ∷ ws) found.0) ∙ sym (ready-line all),

@@ -2,7 +2,7 @@
 use Rattle.std.proofs.Common.{◌≡◌, ℕ, ◌-◌, Bool, true, false, ◌⊎◌, inl, inr, cond, nat_lt, Option, Some, None, List, [], ◌∷◌, length, All, refl, sym, subst}
 use Rattle.std.specs.List.{AllByRecursion, slice_get}
 use Rattle.std.specs.Option.{option_map_or}
-use Rattle.std.proofs.lemmas.List.Elements.{All-nil, All-head, All-tail, All-push}
+use Rattle.std.proofs.lemmas.List.Elements.{All-nil, All-head, All-tail, All-cons, All-push}
 use Rattle.std.proofs.lemmas.Option.{same_Some}
 use Rattle.zk_base.proofs.Lists.{All-at}
 use Rattle.zk_base.proofs.WaitsHold.{All-put_before, All-without}
@@ -17,7 +17,7 @@ use Rattle.zk_model_wait.specs.declared.msgq.MsgqOp.{MsgqOp}
 use Rattle.zk_model_wait.specs.declared.msgq.MsgqOp.TheVariants as ops
 use Rattle.zk_model_wait.specs.declared.msgq.MsgqReply.{MsgqReply}
 use Rattle.zk_model_wait.specs.declared.msgq.MsgqReply.TheVariants.{Done, NoMsg, Again, Bytes, Number, Noted, Plain}
-use Rattle.zk_model_wait.specs.Msgq.{Msgq, new_msgq, else_reply, put_reply, get_reply, peek_reply, poll_reply, msgq_reply, put_at_full, appended, put_to, moved_in, get_from, arm_at, msgq_changed, msgq_next, msgq_machine}
+use Rattle.zk_model_wait.specs.Msgq.{Msgq, new_msgq, else_reply, put_reply, get_reply, peek_reply, poll_reply, msgq_reply, put_at_full, appended, put_to, prepended, put_front_to, moved_in, get_from, arm_at, msgq_changed, msgq_next, msgq_machine}
 use Rattle.zk_trace.specs.declared.msgq.Verb.TheVariants as verbs
 use Rattle.zk_blocks.specs.Choices.{IsIn}
 use Rattle.zk_trace.specs.Fields.{IsMessage}
@@ -59,6 +59,13 @@ module _ (decls : List Decl) where
     by false true = inl (inr (inr (inl refl)))
     by false false = inl (inr (inl refl))
 
+  front-says : (message : List ℕ) (waiting : List (Waiter Unit)) (q : Msgq) → Says (ops.PutFront message) (put_reply waiting q false)
+  front-says message (w ∷ ws) q sized = inl (inl refl)
+  front-says message [] q sized = by (nat_lt (length q.messages) q.most) where
+    by : (b : Bool) → AnswersTo decls verbs.PutFront (cond b Done NoMsg)
+    by true = inl (inl refl)
+    by false = inl (inr (inl refl))
+
   get-says : (messages : List (List ℕ)) (waits : Bool) → All IsMessage messages → Says (ops.Get waits) (get_reply messages waits)
   get-says (m ∷ ms) waits all sized = inr (All-head IsMessage m ms all)
   get-says [] true all sized = inl (inr (inl refl))
@@ -88,6 +95,7 @@ module _ (decls : List Decl) where
 
   says : (q : Msgq) (who : Who) (op : MsgqOp) (r : MsgqReply) → Keeps q → FitsOp decls op → msgq_reply q who op ≡ Some r → Says op r
   says q who (ops.Put message waits) r kept fits is = subst (Says (ops.Put message waits)) (same_Some (put_reply q.gets.waiting q waits) r is) (put-says message q.gets.waiting q waits)
+  says q who (ops.PutFront message) r kept fits is = subst (Says (ops.PutFront message)) (same_Some (put_reply q.gets.waiting q false) r is) (front-says message q.gets.waiting q)
   says q who (ops.PutEnd place) r kept fits is = λ sized. inl (decision-by Put q.puts who.number place r kept.puts is)
   says q who (ops.PutQuit place) r kept fits is =
       λ sized. inl (quit-by Put (λ r. IsIn r (Done ∷ NoMsg ∷ Again ∷ [])) put-too Again q.puts who.number place r (inr (inr (inl refl))) kept.puts is)
@@ -145,6 +153,25 @@ module _ (decls : List Decl) where
     by true = appended-keeps q message fits kept
     by false = full-keeps q who message waits fits kept
 
+  front-keeps : (waiting : List (Waiter Unit)) (q : Msgq) (message : List ℕ) → IsMessage message → Keeps q → Keeps (put_front_to waiting q message)
+  front-keeps (w ∷ ws) q message fits kept = record {
+    messages = kept.messages;
+    held = kept.held;
+    puts = kept.puts;
+    gets = first_decided-by IsBytes (Bytes message) q.gets fits kept.gets;
+    pollers = kept.pollers;
+  }
+  front-keeps [] q message fits kept = by (nat_lt (length q.messages) q.most) where
+    by : (b : Bool) → Keeps (cond b (prepended q message) q)
+    by true = record {
+      messages = All-cons IsMessage message q.messages fits kept.messages;
+      held = kept.held;
+      puts = kept.puts;
+      gets = kept.gets;
+      pollers = first_decided-by Told Noted q.pollers (inl refl) kept.pollers;
+    }
+    by false = kept
+
   first-held : (answer : MsgqReply) (waiting : List (Waiter (List ℕ))) (decided : List (Decision MsgqReply)) → All Holds waiting → All Holds (decides_first answer waiting decided).waiting
   first-held answer [] decided all = all
   first-held answer (w ∷ ws) decided all = All-tail Holds w ws all
@@ -173,6 +200,7 @@ module _ (decls : List Decl) where
 
   changed-keeps : (q : Msgq) (who : Who) (op : MsgqOp) → Keeps q → FitsOp decls op → Keeps (msgq_changed q who op)
   changed-keeps q who (ops.Put message waits) kept fits = put-keeps q.gets.waiting q who message waits fits kept
+  changed-keeps q who (ops.PutFront message) kept fits = front-keeps q.gets.waiting q message fits kept
   changed-keeps q who (ops.PutEnd place) kept fits =
       record { messages = kept.messages; held = kept.held; puts = ended-by Put q.puts who.number place kept.puts; gets = kept.gets; pollers = kept.pollers }
   changed-keeps q who (ops.PutQuit place) kept fits = record {

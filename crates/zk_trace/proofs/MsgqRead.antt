@@ -33,6 +33,7 @@ module _ (decls : List Decl) (are : AreNames decls) where
 
   there : (op : MsgqOp) → FitsOp decls op → AreRead (op_behind decls (said_of op).0) (args op) op
   there (ops.Put message waits) fits = two-there message_exact waits_exact ops.Put message waits fits tt
+  there (ops.PutFront message) fits = one-there message_exact ops.PutFront message fits
   there (ops.PutEnd place) fits = one-there wide_exact ops.PutEnd place fits
   there (ops.PutQuit place) fits = one-there wide_exact ops.PutQuit place fits
   there (ops.Get waits) fits = one-there waits_exact ops.Get waits tt
@@ -49,6 +50,7 @@ module _ (decls : List Decl) (are : AreNames decls) where
 
   says : (v : Verb) (words : List (List ℕ)) (op : MsgqOp) → op_behind decls v words ≡ Some op → Says v words op
   says verbs.Put = two-says message_exact waits_exact ops.Put (Says verbs.Put) (λ message waits fits waits_fit. (refl, refl, fits))
+  says verbs.PutFront = one-says message_exact ops.PutFront (Says verbs.PutFront) (λ message fits. (refl, refl, fits))
   says verbs.PutEnd = one-says wide_exact ops.PutEnd (Says verbs.PutEnd) (λ place fits. (refl, refl, fits))
   says verbs.PutQuit = one-says wide_exact ops.PutQuit (Says verbs.PutQuit) (λ place fits. (refl, refl, fits))
   says verbs.Get = one-says waits_exact ops.Get (Says verbs.Get) (λ waits fits. (refl, refl, tt))

@@ -16,7 +16,7 @@ use Rattle.zk_words.specs.Events.{begins}
 use Rattle.zk_words.specs.Numbers.{is_number, number_of, fitting, is_between, number_in}
 use Rattle.zk_words.proofs.Numerals.{numerals, number_spelled, number_in_spelled}
 use Rattle.zk_trace.specs.Exact.{IsPlain, IsExact}
-use Rattle.zk_trace.specs.Fields.{fronted, wide_of, narrow_of, short_of, position_of, admission_of}
+use Rattle.zk_trace.specs.Fields.{fronted, wide_of, narrow_of, short_of, admission_of}
 use Rattle.zk_trace.specs.Words.{admission_front, admission_word}
 use Rattle.zk_trace.proofs.PlainWords.{digits_of_words, plain_by}
 
@@ -75,10 +75,6 @@ narrow_exact = bounded_exact (2 ^ 32) (omega arith) (omega arith)
 -- a number of 16 bits
 pub short_exact : IsExact decimal (λ n. n < 2 ^ 16) short_of
 short_exact = bounded_exact (2 ^ 16) (omega arith) (omega arith)
-
--- the number of an event in a poll
-pub position_exact : IsExact decimal (λ n. n < 2 ^ 8) position_of
-position_exact = bounded_exact (2 ^ 8) (omega arith) (omega arith)
 
 -- Behind a front.
 

@@ -32,10 +32,6 @@ narrow_of word = number_in 0 (2 ^ 32 - 1) word
 abbrev pub short_of : List ℕ → Option ℕ
 short_of word = number_in 0 (2 ^ 16 - 1) word
 
--- the number of an event in a poll, of 8 bits
-abbrev pub position_of : List ℕ → Option ℕ
-position_of word = number_in 0 (2 ^ 8 - 1) word
-
 -- what stands behind a front says
 abbrev pub fronted : {A : Type 0} → List ℕ → (List ℕ → Option A) → List ℕ → Option A
 fronted front of word = if begins front word then of (drop (length front) word) else None
@@ -169,7 +165,7 @@ said_behind first of words = option_and_then of (behind first words)
 -- the events of a poll that are ready, behind their word
 abbrev pub ready_of : List ℕ → Option (List ℕ)
 ready_of row =
-    option_and_then (up_to MOST_EVENTS) (option_and_then (each_of position_of) (behind ready_front (words_of row)))
+    option_and_then (up_to MOST_EVENTS) (option_and_then (each_of narrow_of) (behind ready_front (words_of row)))
 
 -- the word, where there is just one
 abbrev pub one_word : List (List ℕ) → Option (List ℕ)
@@ -258,4 +254,4 @@ pub record AreObservers (decls : List Decl) (told : List ℕ) : Type 0 where
 -- the numbers of events of a poll, no more than there may be
 pub record ArePositions (positions : List ℕ) : Type 0 where
   pub few : nat_le (length positions) MOST_EVENTS ≡ true
-  pub each : AllByRecursion (λ p. p < 2 ^ 8) positions
+  pub each : AllByRecursion (λ p. p < 2 ^ 32) positions

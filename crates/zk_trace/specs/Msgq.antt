@@ -15,6 +15,7 @@ use Rattle.zk_trace.specs.Parts.{part_word}
 -- the word of a verb
 abbrev pub verb_word : Verb → List ℕ
 verb_word verbs.Put = codes "put"
+verb_word verbs.PutFront = codes "putfront"
 verb_word verbs.PutEnd = codes "putend"
 verb_word verbs.PutQuit = codes "putquit"
 verb_word verbs.Get = codes "get"
@@ -32,6 +33,7 @@ verb_word verbs.PollQuit = codes "pollquit"
 -- an operation as it is written: its verb, and what stands behind that
 abbrev pub said_of : MsgqOp → Verb × List Part
 said_of (ops.Put message waits) = (verbs.Put, Bytes message ∷ Waits waits ∷ [])
+said_of (ops.PutFront message) = (verbs.PutFront, Bytes message ∷ [])
 said_of (ops.PutEnd place) = (verbs.PutEnd, Place place ∷ [])
 said_of (ops.PutQuit place) = (verbs.PutQuit, Place place ∷ [])
 said_of (ops.Get waits) = (verbs.Get, Waits waits ∷ [])

@@ -16,8 +16,8 @@ use Rattle.zk_trace.specs.Msgq.{verb_word, reply_words}
 -- all verbs
 abbrev pub all_verbs : List Verb
 all_verbs =
-    verbs.Put ∷ verbs.PutEnd ∷ verbs.PutQuit ∷ verbs.Get ∷ verbs.GetEnd ∷ verbs.GetQuit ∷ verbs.Peek ∷ verbs.PeekAt
-    ∷ verbs.Purge ∷ verbs.Used ∷ verbs.Free ∷ verbs.PollArm ∷ verbs.PollEnd ∷ verbs.PollQuit ∷ []
+    verbs.Put ∷ verbs.PutFront ∷ verbs.PutEnd ∷ verbs.PutQuit ∷ verbs.Get ∷ verbs.GetEnd ∷ verbs.GetQuit
+    ∷ verbs.Peek ∷ verbs.PeekAt ∷ verbs.Purge ∷ verbs.Used ∷ verbs.Free ∷ verbs.PollArm ∷ verbs.PollEnd ∷ verbs.PollQuit ∷ []
 
 -- the verb of a word
 abbrev pub verb_of : List ℕ → Option Verb
@@ -26,6 +26,7 @@ verb_of word = named verb_word all_verbs word
 -- the operation of a verb and the words behind it
 abbrev pub op_behind : List Decl → Verb → List (List ℕ) → Option MsgqOp
 op_behind decls verbs.Put words = two ops.Put msg_of waits_of words
+op_behind decls verbs.PutFront words = one ops.PutFront msg_of words
 op_behind decls verbs.PutEnd words = one ops.PutEnd wide_of words
 op_behind decls verbs.PutQuit words = one ops.PutQuit wide_of words
 op_behind decls verbs.Get words = one ops.Get waits_of words
@@ -47,6 +48,7 @@ op_of decls words = said_by verb_word all_verbs (op_behind decls) words
 -- its message is one, and its numbers fit their types
 abbrev pub FitsOp : List Decl → MsgqOp → Type 0
 FitsOp decls (ops.Put message waits) = IsMessage message
+FitsOp decls (ops.PutFront message) = IsMessage message
 FitsOp decls (ops.PutEnd place) = place < 2 ^ 64
 FitsOp decls (ops.PutQuit place) = place < 2 ^ 64
 FitsOp decls (ops.GetEnd place) = place < 2 ^ 64
@@ -59,6 +61,7 @@ FitsOp decls op = Unit {0}
 -- the replies to an operation of a verb that are the same in each line
 abbrev pub fixed_replies : Verb → List MsgqReply
 fixed_replies verbs.Put = replies.Done ∷ replies.NoMsg ∷ replies.Wait ∷ []
+fixed_replies verbs.PutFront = replies.Done ∷ replies.NoMsg ∷ []
 fixed_replies verbs.PutEnd = replies.Done ∷ replies.NoMsg ∷ []
 fixed_replies verbs.PutQuit = replies.Done ∷ replies.NoMsg ∷ replies.Again ∷ []
 fixed_replies verbs.Get = replies.NoMsg ∷ replies.Wait ∷ []

@@ -33,7 +33,7 @@ IsSizedPart (parts.Admission number) = number < 2 ^ 64
 IsSizedPart (parts.Bytes message) = AllByRecursion (λ b. b < 2 ^ 8) message
 IsSizedPart (parts.Objects objects) = length objects ≤ most_few
 IsSizedPart (parts.Seen raised value) = value < 2 ^ 16
-IsSizedPart (parts.Ready positions) = AllByRecursion (λ p. p < 2 ^ 8) positions
+IsSizedPart (parts.Ready positions) = AllByRecursion (λ p. p < 2 ^ 32) positions
 IsSizedPart part = Unit {0}
 
 -- so it is of all of some parts

@@ -41,6 +41,7 @@ fn refusals(word: Word) -> &'static [Errno]
         Word::Stop => &[Errno::Already, Errno::Busy],
         Word::Take => &[Errno::Busy, Errno::Again],
         Word::Put => &[Errno::NoMsg, Errno::Again],
+        Word::PutFront => &[Errno::NoMsg],
         Word::Get => &[Errno::NoMsg, Errno::Again],
         Word::Peek => &[Errno::NoMsg],
         Word::PeekAt => &[Errno::NoMsg],

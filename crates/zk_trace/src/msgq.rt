@@ -15,6 +15,8 @@ use zk_scenario::Scenario;
 pub enum Verb {
     /// Of `MsgqOp::Put`.
     Put,
+    /// Of `MsgqOp::PutFront`.
+    PutFront,
     /// Of `MsgqOp::PutEnd`.
     PutEnd,
     /// Of `MsgqOp::PutQuit`.
@@ -49,6 +51,7 @@ pub fn verb_word(verb: Verb) -> &'static [u8]
 {
     match verb {
         Verb::Put => b"put",
+        Verb::PutFront => b"putfront",
         Verb::PutEnd => b"putend",
         Verb::PutQuit => b"putquit",
         Verb::Get => b"get",
@@ -74,6 +77,12 @@ pub fn said_of(op: &MsgqOp) -> (Verb, PartList<'_>)
             Verb::Put,
             PartList::two(Part::Bytes(Lent::of(message)), Part::Waits(*waits)),
         ),
+        MsgqOp::PutFront(message) => {
+            (
+                Verb::PutFront,
+                PartList::one(Part::Bytes(Lent::of(message))),
+            )
+        }
         MsgqOp::PutEnd(place) => (Verb::PutEnd, PartList::one(Part::Place(*place))),
         MsgqOp::PutQuit(place) => (Verb::PutQuit, PartList::one(Part::Place(*place))),
         MsgqOp::Get(waits) => (Verb::Get, PartList::one(Part::Waits(*waits))),

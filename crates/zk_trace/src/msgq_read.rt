@@ -16,8 +16,9 @@ use zk_scenario::Scenario;
 use zk_words::{Words, is_same};
 
 /// All verbs.
-const VERBS: [Verb; 14] = [
+const VERBS: [Verb; 15] = [
     Verb::Put,
+    Verb::PutFront,
     Verb::PutEnd,
     Verb::PutQuit,
     Verb::Get,
@@ -59,6 +60,7 @@ fn op_behind(scenario: &Scenario, verb: Verb, words: Words<'_>) -> Option<MsgqOp
             let (message, waits) = two_words(words)?;
             Some(MsgqOp::Put(message_of(message)?, waits_of(waits)?))
         }
+        Verb::PutFront => Some(MsgqOp::PutFront(message_of(one_word(words)?)?)),
         Verb::PutEnd => Some(MsgqOp::PutEnd(wide_of(one_word(words)?)?)),
         Verb::PutQuit => Some(MsgqOp::PutQuit(wide_of(one_word(words)?)?)),
         Verb::Get => Some(MsgqOp::Get(waits_of(one_word(words)?)?)),
@@ -81,6 +83,7 @@ pub fn reply_of(scenario: &Scenario, verb: Verb, row: &[u8]) -> Option<MsgqReply
 {
     match verb {
         Verb::Put => first_of!(is_written, row; MsgqReply::Done, MsgqReply::NoMsg, MsgqReply::Wait),
+        Verb::PutFront => first_of!(is_written, row; MsgqReply::Done, MsgqReply::NoMsg),
         Verb::PutEnd => first_of!(is_written, row; MsgqReply::Done, MsgqReply::NoMsg),
         Verb::PutQuit =>
             first_of!(is_written, row; MsgqReply::Done, MsgqReply::NoMsg, MsgqReply::Again),

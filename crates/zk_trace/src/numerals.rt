@@ -3,7 +3,7 @@ ghost use Rattle.std.specs.Char.{is_ascii_digit};
 ghost use Rattle.std.specs.List.{list_all};
 ghost use Rattle.zk_words.specs.Numbers.{is_number, number_of};
 ghost use Rattle.zk_words.specs.Hex.{msg_of};
-ghost use Rattle.zk_trace.specs.Fields.{wide_of, narrow_of, short_of, position_of, admission_of};
+ghost use Rattle.zk_trace.specs.Fields.{wide_of, narrow_of, short_of, admission_of};
 
 use crate::words::ADMISSION;
 use zk_base::Msg;
@@ -65,14 +65,6 @@ pub fn short_of(word: &[u8]) -> Option<u16>
 {
     let number = number_in(0, u32::from(u16::MAX), word)?;
     Some(number as u16)
-}
-
-/// The number of an event in a poll.
-pub fn position_of(word: &[u8]) -> Option<u8>
-    ensures { result ≡ position_of word.now }
-{
-    let number = number_in(0, u32::from(u8::MAX), word)?;
-    Some(number as u8)
 }
 
 /// The number of an admission.

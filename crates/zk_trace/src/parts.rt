@@ -11,7 +11,7 @@ use crate::flags::put_flags;
 use crate::hex::put_hex;
 use crate::looks::put_seen;
 use crate::names::{checked_name, item_name, name_at, put_names, queue_name, target_name};
-use crate::sizes::{Sizes, narrow, octets, short, wide};
+use crate::sizes::{Sizes, narrow, narrows, octets, short, wide};
 use crate::words::{
     errno_word, need_word, put_admission, put_oops, put_ready, truth_word, wait_word,
 };
@@ -61,7 +61,7 @@ pub enum Part<'a> {
     /// Whether a signal is raised, and its result: two words.
     Seen(bool, u16),
     /// The word `ready` and the positions of a poll's ready events.
-    Ready(Positions),
+    Ready(Chosen<'a>),
     /// Whether a call waits where it can't be served at once.
     Waits(bool),
     /// The cause of a refusal.
@@ -153,7 +153,7 @@ pub fn answer_part(answer: &Answer) -> Part<'_>
         Answer::Refused(errno) => Part::Refusal(*errno),
         Answer::Bytes(message) => Part::Bytes(Lent::of(message)),
         Answer::Signal(raised, value) => Part::Seen(*raised, *value),
-        Answer::Ready(positions) => Part::Ready(*positions),
+        Answer::Ready(positions) => Part::Ready(Chosen::of(positions)),
         Answer::Channel(channel) => Part::Object(*channel),
         Answer::Oops(why) => Part::Oops(*why),
     }
@@ -215,6 +215,35 @@ impl<'a> Named<'a> {
         ensures few { length result.now ≤ most_few }
     {
         self.objects.numbers()
+    }
+}
+
+/// The positions of events where they stand, which are as long as the numbers of objects.
+#[derive(Drop)]
+pub struct Chosen<'a> {
+    positions: &'a Positions,
+}
+
+impl<'a> Model for Chosen<'a> {
+    ghost use Rattle.std.specs.Prelude.{ℕ, List};
+
+    ghost Value = { List ℕ };
+
+    ghost view = { λ c. c.positions.now };
+}
+
+impl<'a> Chosen<'a> {
+    /// The positions that stand there.
+    pub fn of(positions: &'a Positions) -> Chosen<'a>
+        ensures { result ≡ positions.now }
+    {
+        Chosen { positions }
+    }
+
+    fn numbers(&self) -> &[u32]
+        ensures { result.now ≡ self.now }
+    {
+        self.positions.numbers()
     }
 }
 
@@ -410,7 +439,7 @@ impl<'a> Sizes for Part<'a> {
             Part::Bytes(message) => octets(message.bytes()),
             Part::Objects(objects) => objects.sizes(),
             Part::Seen(_, value) => short(*value),
-            Part::Ready(positions) => octets(positions.numbers()),
+            Part::Ready(positions) => narrows(positions.numbers()),
             _ => {}
         }
     }

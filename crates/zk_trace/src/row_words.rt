@@ -1,10 +1,10 @@
 ghost use Rattle.std.specs.Prelude.{◌≡◌, MatchOption, option_and_then};
 ghost use Rattle.zk_base.specs.Limits.{most_few};
-ghost use Rattle.zk_trace.specs.Fields.{bare, one_word, two_words, three_words, behind, oops_of, observers_of, ready_of, observer_of, position_of, each_of, up_to};
+ghost use Rattle.zk_trace.specs.Fields.{bare, one_word, two_words, three_words, behind, oops_of, observers_of, ready_of, observer_of, narrow_of, each_of, up_to};
 
 use crate::look_ups::observer_of;
 use crate::names::NO_NAME;
-use crate::numerals::position_of;
+use crate::numerals::narrow_of;
 use crate::set_words::why_of;
 use crate::words::{OOPS, READY};
 use zk_base::{Few, MOST_FEW};
@@ -125,12 +125,12 @@ pub fn ready_of(row: &[u8]) -> Option<Positions>
 }
 
 fn positions_of(words: Words<'_>) -> Option<Positions>
-    ensures { result ≡ option_and_then (up_to MOST_EVENTS) (each_of position_of words.entry) }
+    ensures { result ≡ option_and_then (up_to MOST_EVENTS) (each_of narrow_of words.entry) }
 {
     let mut words = words;
     let mut positions = Positions::new();
     while let Some(word) = words.next() {
-        let position = position_of(word)?;
+        let position = narrow_of(word)?;
         if positions.numbers().len() == MOST_EVENTS {
             return None;
         }

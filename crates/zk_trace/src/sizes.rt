@@ -47,6 +47,13 @@ pub fn octets(numbers: &[u8])
     let _numbers = numbers;
 }
 
+/// Numbers of 32 bits.
+pub fn narrows(numbers: &[u32])
+    ensures { AllByRecursion (λ n. n < 2 ^ 32) numbers.now }
+{
+    let _numbers = numbers;
+}
+
 /// The numbers of each of some.
 pub fn all_sizes<X: Sizes>(each: &[X])
     ensures { All X.sized each.now }

@@ -106,7 +106,7 @@ pub fn wait_word(waits: bool) -> &'static [u8]
 }
 
 /// Appends the word `ready` and positions, each behind a space.
-pub fn put_ready(out: &mut Paper, positions: &[u8]) -> Result<(), NoMemory>
+pub fn put_ready(out: &mut Paper, positions: &[u32]) -> Result<(), NoMemory>
     ensures text { OnOk result (out.new.put ≡ out.old.put ++ ready_word positions.now) }
     ensures front { out.new.front ≡ out.old.front }
 {
@@ -114,7 +114,7 @@ pub fn put_ready(out: &mut Paper, positions: &[u8]) -> Result<(), NoMemory>
     put_positions(out, positions)
 }
 
-fn put_positions(out: &mut Paper, positions: &[u8]) -> Result<(), NoMemory>
+fn put_positions(out: &mut Paper, positions: &[u32]) -> Result<(), NoMemory>
     ensures text { OnOk result (out.new.put ≡ out.old.put ++ positions_text positions.now) }
     ensures front { out.new.front ≡ out.old.front }
 {
@@ -124,7 +124,7 @@ fn put_positions(out: &mut Paper, positions: &[u8]) -> Result<(), NoMemory>
     Ok(())
 }
 
-fn put_position(out: &mut Paper, position: u8) -> Result<(), NoMemory>
+fn put_position(out: &mut Paper, position: u32) -> Result<(), NoMemory>
     ensures text { OnOk result (out.new.put ≡ out.old.put ++ position_text position) }
     ensures front { out.new.front ≡ out.old.front }
 {

@@ -178,7 +178,8 @@ heads =
     ∷ Call word.Schedule ∷ Call word.Reschedule ∷ Call word.Remaining ∷ Call word.Busy
     ∷ Call word.Start ∷ Call word.Drain ∷ Call word.Unplug ∷ Call word.Stop ∷ Call word.Tick
     ∷ Call word.Take ∷ Call word.Give ∷ Call word.Reset ∷ Call word.Count
-    ∷ Call word.Put ∷ Call word.PutFront ∷ Call word.Get ∷ Call word.Peek ∷ Call word.PeekAt ∷ Call word.Purge ∷ Call word.Used ∷ Call word.Free
+    ∷ Call word.Put ∷ Call word.PutFront ∷ Call word.Get ∷ Call word.Peek ∷ Call word.PeekAt
+    ∷ Call word.Purge ∷ Call word.Used ∷ Call word.Free
     ∷ Call word.Raise ∷ Call word.Clear ∷ Call word.Check ∷ Call word.Poll
     ∷ Call word.Claim ∷ Call word.Finish ∷ Call word.Publish ∷ Call word.Notify ∷ Call word.Read
     ∷ Call word.Mask ∷ Call word.Enable ∷ Call word.SubWait

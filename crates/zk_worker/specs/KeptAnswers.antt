@@ -1,5 +1,5 @@
 -- Inner: no contract of a top call is made of this file.
--- How answered calls are kept: a row for each, and the messages apart.
+-- How answered calls are kept: a row for each, and the messages and the positions of polls apart.
 use Rattle.std.specs.Prelude.{ℕ, ◌≤◌, ◌<◌, Option, Some, None, List, [], ◌∷◌, length, All, slice_get}
 use Rattle.zk_worker.specs.declared.answers.Answer.{Answer}
 use Rattle.zk_worker.specs.declared.answers.Answer.TheVariants as answers
@@ -18,45 +18,57 @@ abbrev pub message_of : Option (List ℕ) → Answer
 message_of (Some message) = answers.Bytes message
 message_of None = answers.Number 0
 
--- what a row answers, with the messages that stand apart
-abbrev pub whole : List (List ℕ) → Brief → Answer
-whole messages (briefs.Number number) = answers.Number number
-whole messages (briefs.Flags flags) = answers.Flags flags
-whole messages (briefs.Truth truth) = answers.Truth truth
-whole messages (briefs.Refused errno) = answers.Refused errno
-whole messages (briefs.Bytes place) = message_of (slice_get messages place)
-whole messages (briefs.Signal raised result) = answers.Signal raised result
-whole messages (briefs.Ready positions) = answers.Ready positions
-whole messages (briefs.Channel object) = answers.Channel object
-whole messages (briefs.Oops why) = answers.Oops why
+-- the answer that is the positions of a poll's ready events, where they are there
+abbrev pub positions_of : Option (List ℕ) → Answer
+positions_of (Some positions) = answers.Ready positions
+positions_of None = answers.Number 0
+
+-- what a row answers, with the messages and the positions that stand apart
+abbrev pub whole : List (List ℕ) → List (List ℕ) → Brief → Answer
+whole messages ready (briefs.Number number) = answers.Number number
+whole messages ready (briefs.Flags flags) = answers.Flags flags
+whole messages ready (briefs.Truth truth) = answers.Truth truth
+whole messages ready (briefs.Refused errno) = answers.Refused errno
+whole messages ready (briefs.Bytes place) = message_of (slice_get messages place)
+whole messages ready (briefs.Signal raised result) = answers.Signal raised result
+whole messages ready (briefs.Ready place) = positions_of (slice_get ready place)
+whole messages ready (briefs.Channel object) = answers.Channel object
+whole messages ready (briefs.Oops why) = answers.Oops why
 
 -- the answered call of a row
-abbrev pub told : List (List ℕ) → AnswerRow → Answered
-told messages row = record { step = row.step; word = row.word; answer = whole messages row.brief }
+abbrev pub told : List (List ℕ) → List (List ℕ) → AnswerRow → Answered
+told messages ready row = record { step = row.step; word = row.word; answer = whole messages ready row.brief }
 
--- what is kept of an answer, whose message comes to this place
-abbrev pub brief_by : ℕ → Answer → Brief
-brief_by place (answers.Number number) = briefs.Number number
-brief_by place (answers.Flags flags) = briefs.Flags flags
-brief_by place (answers.Truth truth) = briefs.Truth truth
-brief_by place (answers.Refused errno) = briefs.Refused errno
-brief_by place (answers.Bytes message) = briefs.Bytes place
-brief_by place (answers.Signal raised result) = briefs.Signal raised result
-brief_by place (answers.Ready positions) = briefs.Ready positions
-brief_by place (answers.Channel object) = briefs.Channel object
-brief_by place (answers.Oops why) = briefs.Oops why
+-- what is kept of an answer, whose message or positions come to this place
+abbrev pub brief_by : ℕ → ℕ → Answer → Brief
+brief_by message ready (answers.Number number) = briefs.Number number
+brief_by message ready (answers.Flags flags) = briefs.Flags flags
+brief_by message ready (answers.Truth truth) = briefs.Truth truth
+brief_by message ready (answers.Refused errno) = briefs.Refused errno
+brief_by message ready (answers.Bytes bytes) = briefs.Bytes message
+brief_by message ready (answers.Signal raised result) = briefs.Signal raised result
+brief_by message ready (answers.Ready positions) = briefs.Ready ready
+brief_by message ready (answers.Channel object) = briefs.Channel object
+brief_by message ready (answers.Oops why) = briefs.Oops why
 
 -- the message that is kept apart of an answer, if it has one
 abbrev pub messages_in : Answer → List (List ℕ)
 messages_in (answers.Bytes message) = message ∷ []
 messages_in answer = []
 
--- the message of a row is among so many
-abbrev pub HasMessage : ℕ → Brief → Type 0
-HasMessage count (briefs.Bytes place) = place < count
-HasMessage count brief = Unit {0}
+-- the positions that are kept apart of an answer, if it has some
+abbrev pub ready_in : Answer → List (List ℕ)
+ready_in (answers.Ready positions) = positions ∷ []
+ready_in answer = []
 
--- each message is there that a row has, and there are no more messages than rows
-pub record AreKept (messages : List (List ℕ)) (rows : List AnswerRow) : Type 0 where
-  pub there : All (λ row. HasMessage (length messages) row.brief) rows
+-- the message or the positions of a row are among so many
+abbrev pub IsApart : ℕ → ℕ → Brief → Type 0
+IsApart messages ready (briefs.Bytes place) = place < messages
+IsApart messages ready (briefs.Ready place) = place < ready
+IsApart messages ready brief = Unit {0}
+
+-- all is there that a row has apart, and there are no more messages or positions than rows
+pub record AreKept (messages ready : List (List ℕ)) (rows : List AnswerRow) : Type 0 where
+  pub there : All (λ row. IsApart (length messages) (length ready) row.brief) rows
   pub few : length messages ≤ length rows
+  pub few_ready : length ready ≤ length rows

@@ -1,6 +1,6 @@
-//! Answers of at most 32 bytes: a message that was answered stands apart.
+//! Answers of at most 32 bytes: a message that was answered stands apart, and so do positions.
 ghost use Rattle.std.specs.Prelude.{◌≡◌, ◌≤◌, ◌<◌, ◌++◌, [], ◌∷◌, length, IfOk, OnOk, OnErr, slice_get, vec_len, vec_capacity};
-ghost use Rattle.zk_worker.specs.KeptAnswers.{whole, brief_by, messages_in};
+ghost use Rattle.zk_worker.specs.KeptAnswers.{whole, brief_by, messages_in, ready_in};
 
 use crate::{Answer, Answered, Positions};
 use std::alloc::Global;
@@ -9,7 +9,7 @@ use zk_base::{Errno, Msg, NoMemory, push_within};
 use zk_model_bus::OopsWhy;
 use zk_words::Word;
 
-/// What a call was answered. Of a message it has the place among those that stand apart.
+/// What a call was answered. Of a message, and of the positions of a poll, it has the place among those that stand apart.
 #[derive(Clone, Copy)]
 pub enum Brief {
     Number(u64),
@@ -18,7 +18,7 @@ pub enum Brief {
     Refused(Errno),
     Bytes(usize),
     Signal(bool, u16),
-    Ready(Positions),
+    Ready(usize),
     Channel(u32),
     Oops(OopsWhy),
 }
@@ -36,6 +36,7 @@ pub struct AnswerRow {
 pub struct AnswerRows {
     rows: Vec<AnswerRow>,
     messages: Vec<Msg>,
+    ready: Vec<Positions>,
 }
 
 impl Model for AnswerRows {
@@ -45,16 +46,16 @@ impl Model for AnswerRows {
     ghost Value = { AnswersKept };
 
     ghost view = { λ a. record {
-      items = map (told a.messages.items) a.rows.items;
-      room = min (vec_capacity a.rows) (vec_capacity a.messages);
+      items = map (told a.messages.items a.ready.items) a.rows.items;
+      room = min (vec_capacity a.rows) (min (vec_capacity a.messages) (vec_capacity a.ready));
     } };
 
-    ghost invariant = { λ a. AreKept a.messages.items a.rows.items };
+    ghost invariant = { λ a. AreKept a.messages.items a.ready.items a.rows.items };
 }
 
 /// The answer of a row.
-fn whole(messages: &[Msg], brief: &Brief) -> Answer
-    ensures { result ≡ whole messages.now brief.now }
+fn whole(messages: &[Msg], ready: &[Positions], brief: &Brief) -> Answer
+    ensures { result ≡ whole messages.now ready.now brief.now }
 {
     match *brief {
         Brief::Number(number) => Answer::Number(number),
@@ -66,47 +67,63 @@ fn whole(messages: &[Msg], brief: &Brief) -> Answer
             None => Answer::Number(0),
         },
         Brief::Signal(raised, result) => Answer::Signal(raised, result),
-        Brief::Ready(positions) => Answer::Ready(positions),
+        Brief::Ready(place) => match ready.get(place) {
+            Some(positions) => Answer::Ready(*positions),
+            None => Answer::Number(0),
+        },
         Brief::Channel(object) => Answer::Channel(object),
         Brief::Oops(why) => Answer::Oops(why),
     }
 }
 
-/// The row of an answer, whose message, if it has one, stands at this place.
-fn brief_by(answer: &Answer, place: usize) -> Brief
-    ensures { result ≡ brief_by place answer.now }
+/// The row of an answer, whose message or positions, if it has some, stand at this place among the others.
+fn brief_by(answer: &Answer, message: usize, ready: usize) -> Brief
+    ensures { result ≡ brief_by message ready answer.now }
 {
     match answer {
         Answer::Number(number) => Brief::Number(*number),
         Answer::Flags(flags) => Brief::Flags(*flags),
         Answer::Truth(truth) => Brief::Truth(*truth),
         Answer::Refused(errno) => Brief::Refused(*errno),
-        Answer::Bytes(_) => Brief::Bytes(place),
+        Answer::Bytes(_) => Brief::Bytes(message),
         Answer::Signal(raised, result) => Brief::Signal(*raised, *result),
-        Answer::Ready(positions) => Brief::Ready(*positions),
+        Answer::Ready(_) => Brief::Ready(ready),
         Answer::Channel(object) => Brief::Channel(*object),
         Answer::Oops(why) => Brief::Oops(*why),
     }
 }
 
-/// Puts the message of an answer to the others, for which there is room.
-fn put_message(messages: &mut Vec<Msg>, answer: &Answer)
-    requires { vec_len messages.old < vec_capacity messages.old }
-    ensures items { messages.new.items ≡ messages.old.items ++ messages_in answer.now }
-    ensures capacity { vec_capacity messages.old ≤ vec_capacity messages.new }
+/// Puts the message or the positions of an answer to the others, for which there is room.
+fn put_apart(messages: &mut Vec<Msg>, ready: &mut Vec<Positions>, answer: &Answer)
+    requires message { vec_len messages.old < vec_capacity messages.old }
+    requires positions { vec_len ready.old < vec_capacity ready.old }
+    ensures with_message { messages.new.items ≡ messages.old.items ++ messages_in answer.now }
+    ensures with_positions { ready.new.items ≡ ready.old.items ++ ready_in answer.now }
+    ensures room { vec_capacity messages.old ≤ vec_capacity messages.new }
+    ensures ready_room { vec_capacity ready.old ≤ vec_capacity ready.new }
 {
-    if let Answer::Bytes(message) = answer {
-        push_within(messages, *message);
+    match answer {
+        Answer::Bytes(message) => push_within(messages, *message),
+        Answer::Ready(positions) => push_within(ready, *positions),
+        _ => {}
     }
 }
 
 /// The same, with or without room.
-fn grow_messages(messages: &mut Vec<Msg>, answer: &Answer) -> Result<(), NoMemory>
-    ensures ok { OnOk result (messages.new.items ≡ messages.old.items ++ messages_in answer.now) }
+fn grow_apart(
+    messages: &mut Vec<Msg>,
+    ready: &mut Vec<Positions>,
+    answer: &Answer,
+) -> Result<(), NoMemory>
+    ensures with_message { OnOk result (messages.new.items ≡ messages.old.items ++ messages_in answer.now) }
+    ensures with_positions { OnOk result (ready.new.items ≡ ready.old.items ++ ready_in answer.now) }
     ensures err { OnErr result (messages.new.items ≡ messages.old.items) }
+    ensures ready_err { OnErr result (ready.new.items ≡ ready.old.items) }
 {
-    if let Answer::Bytes(message) = answer {
-        messages.push(*message)?;
+    match answer {
+        Answer::Bytes(message) => messages.push(*message)?,
+        Answer::Ready(positions) => ready.push(*positions)?,
+        _ => {}
     }
     Ok(())
 }
@@ -119,6 +136,7 @@ impl AnswerRows {
         AnswerRows {
             rows: Vec::new(alloc),
             messages: Vec::new(alloc),
+            ready: Vec::new(alloc),
         }
     }
 
@@ -130,6 +148,7 @@ impl AnswerRows {
         Ok(AnswerRows {
             rows: Vec::with_capacity(alloc, room)?,
             messages: Vec::with_capacity(alloc, room)?,
+            ready: Vec::with_capacity(alloc, room)?,
         })
     }
 
@@ -145,7 +164,7 @@ impl AnswerRows {
         ensures { result ≡ slice_get self.now.items place }
     {
         let row = self.rows.get(place)?;
-        let answer = whole(&self.messages, &row.brief);
+        let answer = whole(&self.messages, &self.ready, &row.brief);
         Some(Answered {
             step: row.step,
             word: row.word,
@@ -159,8 +178,8 @@ impl AnswerRows {
         ensures items { self.new.items ≡ self.old.items ++ record { step = step; word = word; answer = answer.now } ∷ [] }
         ensures room { self.old.room ≤ self.new.room }
     {
-        let brief = brief_by(answer, self.messages.len());
-        put_message(&mut self.messages, answer);
+        let brief = brief_by(answer, self.messages.len(), self.ready.len());
+        put_apart(&mut self.messages, &mut self.ready, answer);
         push_within(&mut self.rows, AnswerRow { step, word, brief });
     }
 
@@ -170,9 +189,9 @@ impl AnswerRows {
         ensures err { OnErr result (self.new.items ≡ self.old.items) }
     {
         let Answered { step, word, answer } = answered;
-        let brief = brief_by(&answer, self.messages.len());
+        let brief = brief_by(&answer, self.messages.len(), self.ready.len());
         self.rows.reserve(1)?;
-        grow_messages(&mut self.messages, &answer)?;
+        grow_apart(&mut self.messages, &mut self.ready, &answer)?;
         push_within(&mut self.rows, AnswerRow { step, word, brief });
         Ok(())
     }

@@ -348,7 +348,7 @@ fn alarm_after(alarm: Alarm, reply: &StepReply) -> Alarm
 }
 
 /// The positions of the ready events, counted from this number, behind those before them.
-fn add_ready(positions: &mut Positions, n: u8, marks: &[Mark])
+fn add_ready(positions: &mut Positions, n: u32, marks: &[Mark])
     requires room { length positions.old + length marks.now ≤ MOST_EVENTS }
     requires few { n + length marks.now ≤ MOST_EVENTS }
     ensures { positions.new ≡ positions.old ++ ready_from n marks.now }

@@ -7,7 +7,7 @@ use zk_line::MOST_EVENTS;
 #[derive(Clone, Copy, Debug)]
 pub struct Positions {
     // The positions, then zeros.
-    numbers: [u8; MOST_EVENTS],
+    numbers: [u32; MOST_EVENTS],
     count: usize,
 }
 
@@ -44,7 +44,7 @@ impl Positions {
     }
 
     /// One position more, for which there is room.
-    pub fn push(&mut self, number: u8)
+    pub fn push(&mut self, number: u32)
         requires { length self.old < MOST_EVENTS }
         ensures { self.new ≡ self.old ++ number ∷ [] }
     {
@@ -53,7 +53,7 @@ impl Positions {
     }
 
     /// The positions.
-    pub fn numbers(&self) -> &[u8]
+    pub fn numbers(&self) -> &[u32]
         ensures { result.now ≡ self.now }
     {
         &self.numbers[..self.count]
