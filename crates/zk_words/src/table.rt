@@ -192,7 +192,7 @@ pub fn call_row(word: Word) -> Row
 }
 
 /// The heads of all lines.
-const HEADS: [Head; 54] = [
+const HEADS: [Head; 55] = [
     Head::Declare(Kind::Thread),
     Head::Declare(Kind::Queue),
     Head::Declare(Kind::Item),
