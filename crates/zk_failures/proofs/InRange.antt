@@ -64,6 +64,7 @@ module _ (decls : List Decl) where
   work-fits (ops.DrainStart queue plug) fits = queue-is queue fits
   work-fits (ops.DrainDone place) fits = refl
   work-fits (ops.Unplug queue) fits = queue-is queue fits
+  work-fits (ops.Stop queue) fits = queue-is queue fits
   work-fits (ops.Announce ticks) fits = refl
   work-fits (ops.Begin queue) fits = queue-is queue fits
   work-fits (ops.End queue) fits = queue-is queue fits

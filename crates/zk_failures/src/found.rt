@@ -28,6 +28,7 @@ fn copied(alloc: Global, reply: &WorkReply) -> Result<WorkReply, NoMemory>
         WorkReply::Number(number) => WorkReply::Number(*number),
         WorkReply::Done => WorkReply::Done,
         WorkReply::Already => WorkReply::Already,
+        WorkReply::Busy => WorkReply::Busy,
         WorkReply::Now(time, ended) => {
             WorkReply::Now(*time, Listed::from_vec(ended.items().to_vec(alloc)?))
         }

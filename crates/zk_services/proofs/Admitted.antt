@@ -110,6 +110,7 @@ module _ (decls : List Decl) where
   declared-keeps s who (ops.DrainStart queue plug) kept is = keeps decls s who (ops.DrainStart queue plug) kept (ltb-true queue queues is)
   declared-keeps s who (ops.DrainDone place) kept is = record { admissions = kept.admissions; arms = kept.arms; queues = kept.queues }
   declared-keeps s who (ops.Unplug queue) kept is = keeps decls s who (ops.Unplug queue) kept (ltb-true queue queues is)
+  declared-keeps s who (ops.Stop queue) kept is = keeps decls s who (ops.Stop queue) kept (ltb-true queue queues is)
   declared-keeps s who (ops.Announce ticks) kept is =
       let after = announce-keeps s ticks kept in
       record { admissions = after.admissions; arms = after.arms; queues = after.queues }

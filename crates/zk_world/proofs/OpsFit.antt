@@ -76,6 +76,7 @@ module _ (decls : List Decl) where
   work-op (ops.DrainStart queue plug) fits sized = ltb-true queue (length (places is_queue decls)) fits
   work-op (ops.DrainDone place) fits sized = sized.0
   work-op (ops.Unplug queue) fits sized = ltb-true queue (length (places is_queue decls)) fits
+  work-op (ops.Stop queue) fits sized = ltb-true queue (length (places is_queue decls)) fits
   work-op (ops.Announce ticks) fits sized = sized.0
   work-op (ops.Begin queue) fits sized = ltb-true queue (length (places is_queue decls)) fits
   work-op (ops.End queue) fits sized = ltb-true queue (length (places is_queue decls)) fits
