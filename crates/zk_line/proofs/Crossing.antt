@@ -119,7 +119,13 @@ call_parts = (
                                                                                 search (message_sync, named_sync, events_sync, sendable, crosses) depth 20 fits 20000,
                                                                                 (
                                                                                   search (message_sync, named_sync, events_sync, sendable, crosses) depth 20 fits 20000,
-                                                                                  tt,
+                                                                                  (
+                                                                                    search (message_sync, named_sync, events_sync, sendable, crosses) depth 20 fits 20000,
+                                                                                    (
+                                                                                      search (message_sync, named_sync, events_sync, sendable, crosses) depth 20 fits 20000,
+                                                                                      tt,
+                                                                                    ),
+                                                                                  ),
                                                                                 ),
                                                                               ),
                                                                             ),

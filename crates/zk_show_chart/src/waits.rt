@@ -16,7 +16,7 @@ pub struct Gives {
 /// The rows from which the entries of a message queue come.
 #[derive(Drop)]
 pub struct Puts {
-    /// The rows of the puts whose messages are in the queue, the oldest first.
+    /// The rows of the puts whose messages are in the queue, that of the message that is got next first.
     messages: VecDeque<u32>,
     /// Who waits to put a message in, and the row of that put.
     putters: WaitList<u32, ()>,
@@ -97,7 +97,17 @@ impl Puts {
         Ok(())
     }
 
-    /// The oldest message is taken, and the first that waits moves in.
+    /// A message is put in before the others: the first who waits for one has it.
+    fn put_front(&mut self, row: u32) -> Result<(), NoMemory> {
+        if self.getters.first().is_some() {
+            self.getters.decide_first(Some(row));
+        } else {
+            self.messages.push_front(row)?;
+        }
+        Ok(())
+    }
+
+    /// The first message is taken, and the first that waits moves in.
     fn get(&mut self) -> Result<Option<u32>, NoMemory> {
         let taken = self.messages.pop_front();
         if let Some(first) = self.putters.first() {
@@ -117,6 +127,7 @@ impl Puts {
         let who = entry.who;
         match (entry.op, entry.reply) {
             (MsgqOp::Put(_, _), MsgqReply::Done) => self.put(row)?,
+            (MsgqOp::PutFront(_), MsgqReply::Done) => self.put_front(row)?,
             (MsgqOp::Put(_, _), MsgqReply::Wait) => join(&mut self.putters, place, who, row)?,
             (MsgqOp::Get(_), MsgqReply::Wait) => join(&mut self.getters, place, who, ())?,
             (MsgqOp::PutEnd(begun), _) => {

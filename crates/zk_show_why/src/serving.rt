@@ -19,6 +19,7 @@ fn serves(scenario: &Scenario, waiting: &Call, call: &Call) -> bool {
         (Call::Take(sem, _), Call::Give(other)) => is_same(*sem, *other),
         (Call::Take(sem, _), Call::Reset(other)) => is_same(*sem, *other),
         (Call::Get(queue, _), Call::Put(other, _, _)) => is_same(*queue, *other),
+        (Call::Get(queue, _), Call::PutFront(other, _)) => is_same(*queue, *other),
         (Call::Put(queue, _, _), Call::Get(other, _)) => is_same(*queue, *other),
         (Call::Put(queue, _, _), Call::Purge(other)) => is_same(*queue, *other),
         (Call::SubWait(sub, _), Call::Publish(chan, _, _)) => tells(scenario, *chan, *sub),
@@ -34,6 +35,7 @@ fn readies(events: &[Event], call: &Call) -> bool {
         let ready = match (event, call) {
             (Event::Sem(sem), Call::Give(other)) => is_same(*sem, *other),
             (Event::Msgq(queue), Call::Put(other, _, _)) => is_same(*queue, *other),
+            (Event::Msgq(queue), Call::PutFront(other, _)) => is_same(*queue, *other),
             (Event::Sig(signal), Call::Raise(other, _)) => is_same(*signal, *other),
             _ => false,
         };

@@ -193,12 +193,12 @@ impl Told {
             Told::OthersThrough => b". Nobody serves it: all others are through",
             Told::NobodyGives =>
                 b". Nobody serves it: nobody has a `give` or `reset` for that ahead",
-            Told::NobodyPuts => b". Nobody serves it: nobody has a `put` for that ahead",
+            Told::NobodyPuts => b". Nobody serves it: nobody has a `put` or `putfront` for that ahead",
             Told::NobodyGets => b". Nobody serves it: nobody has a `get` or `purge` for that ahead",
             Told::NobodyPublishes =>
                 b". Nobody serves it: nobody has a `publish` or `notify` for that ahead",
             Told::NobodyMakesReady =>
-                b". Nobody serves it: nobody has a `give`, `put` or `raise` for that ahead",
+                b". Nobody serves it: nobody has a `give`, `put`, `putfront` or `raise` for that ahead",
             Told::NobodyCalls => b". Nobody serves it: nobody has a call for that ahead",
             Told::CircleOfOne => b"A circle: {player} waits for itself",
             Told::Circle => b"A circle: {player} waits for {other}",

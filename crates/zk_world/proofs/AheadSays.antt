@@ -226,6 +226,10 @@ plan_of-says decls (calls.Put (Known queue) message timeout) each fits =
     let parts = and_parts (is_at is_msgq decls queue) (is_size (size_at decls queue) (length message) && (wait_fits timeout && true)) fits in
     size-long decls queue message is_msgq each parts.0 msgq-size (and_parts (is_size (size_at decls queue) (length message)) (wait_fits timeout && true) parts.1).0
 plan_of-says decls (calls.Put (Unknown name) message timeout) each fits = absurd (cc)
+plan_of-says decls (calls.PutFront (Known queue) message) each fits =
+    let parts = and_parts (is_at is_msgq decls queue) (is_size (size_at decls queue) (length message) && true) fits in
+    size-long decls queue message is_msgq each parts.0 msgq-size (and_parts (is_size (size_at decls queue) (length message)) true parts.1).0
+plan_of-says decls (calls.PutFront (Unknown name) message) each fits = absurd (cc)
 plan_of-says decls (calls.Mask (Known chan) (Known observer) on) each fits =
     (and_parts (is_at is_observer decls observer) true (and_parts (is_at is_chan decls chan) (is_at is_observer decls observer && true) fits).1).0
 plan_of-says decls (calls.Mask (Known chan) (Unknown name) on) each fits = absurd (no-second (is_at is_chan decls chan) true fits)

@@ -110,6 +110,7 @@ module _ (decls : List Decl) where
 
   pub msgq-op : (object : ℕ) (op : MsgqOp) → SaysFit decls (steps.Msgq object op) → AreSized (msgq.said_of op).1 → msgq_read.FitsOp decls op
   msgq-op object (msgq_ops.Put message waits) says sized = record { size = says; bytes = sized.0 }
+  msgq-op object (msgq_ops.PutFront message) says sized = record { size = says; bytes = sized.0 }
   msgq-op object (msgq_ops.PutEnd place) says sized = sized.0
   msgq-op object (msgq_ops.PutQuit place) says sized = sized.0
   msgq-op object (msgq_ops.GetEnd place) says sized = sized.0

@@ -13,6 +13,7 @@ use Rattle.zk_worker.specs.declared.steps.Step.TheVariants as steps
 -- and the channel of a visit are declared
 abbrev pub SaysFit : List Decl → Step → Type 0
 SaysFit decls (steps.Msgq object (msgq_ops.Put message waits)) = is_message message ≡ true
+SaysFit decls (steps.Msgq object (msgq_ops.PutFront message)) = is_message message ≡ true
 SaysFit decls (steps.Chan object (chan_ops.Offer message waits)) = is_message message ≡ true
 SaysFit decls (steps.Chan object (chan_ops.Set message)) = is_message message ≡ true
 SaysFit decls (steps.Chan object (chan_ops.Mask observer on)) = is_at is_observer decls observer ≡ true
