@@ -193,7 +193,8 @@ impl Told {
             Told::OthersThrough => b". Nobody serves it: all others are through",
             Told::NobodyGives =>
                 b". Nobody serves it: nobody has a `give` or `reset` for that ahead",
-            Told::NobodyPuts => b". Nobody serves it: nobody has a `put` or `putfront` for that ahead",
+            Told::NobodyPuts =>
+                b". Nobody serves it: nobody has a `put` or `putfront` for that ahead",
             Told::NobodyGets => b". Nobody serves it: nobody has a `get` or `purge` for that ahead",
             Told::NobodyPublishes =>
                 b". Nobody serves it: nobody has a `publish` or `notify` for that ahead",
