@@ -1,4 +1,3 @@
-pub mod Numbers
 pub mod Seated
 pub mod Crossing
 pub mod Finishing

@@ -1,34 +1,25 @@
 -- Callers in seats, and out of them again.
-use Rattle.std.proofs.Common.{◌≡◌, ℕ, ◌<◌, Option, Some, None, List, [], ◌∷◌, ◌++◌, length, map, All, IsPermutation, refl, sym, ap, subst, ◌∙◌, arith}
-use Rattle.std.specs.List.{slice_get}
-use Rattle.std.specs.Option.{option_map}
-use Rattle.std.specs.List.Sorted.{IsNonDecreasingBy}
+use Rattle.std.proofs.Common.{◌≡◌, ℕ, ◌<◌, Option, Some, None, List, [], ◌∷◌, ◌++◌, length, map, All, refl, sym, ap, subst, ◌∙◌, arith}
 use Rattle.std.proofs.lemmas.List.{length-map, map-append}
 use Rattle.std.proofs.lemmas.List.Elements.{All-head, All-weaker, All-map}
-use Rattle.std.proofs.lemmas.Option.{slice_get-map}
 use Rattle.zk_scenario.specs.Players.{players}
 use Rattle.zk_kernel.specs.declared.caller.Caller.{Caller}
-use Rattle.zk_kernel.specs.Callers.{IsCaller, place_of}
+use Rattle.zk_kernel.specs.Callers.{IsCaller, number_of}
 use Rattle.zk_cells.specs.Kernels.{Shared}
-use Rattle.zk_kernel.specs.Rests.{AreAllCallers}
+use Rattle.zk_kernel.specs.Rests.{AreAllCallers, numbers_from}
 use Rattle.zk_pool.specs.Counts.{tally}
 use Rattle.zk_pool.specs.declared.pool.Pool.{Pool}
 use Rattle.zk_pool.specs.Hands.{home_in, pool_home, pool_items, HaveOneHome}
 use Rattle.zk_pool.specs.Rule.{Suits}
 use Rattle.zk_cores.specs.declared.seat.Seat.{Seat}
-use Rattle.zk_cores.specs.Seats.{seat_caller, seat_number, seat_kernel, IsSeated, numbers_from}
-use Rattle.zk_cores.proofs.Numbers.{in-place, numbered}
+use Rattle.zk_cores.specs.Seats.{seat_caller, seat_number, seat_kernel, IsSeated}
 
 -- it is a seat of this kernel
 abbrev pub IsOf : Shared → Seat → Type 0
 IsOf k seat = Suits seat_number seat_kernel IsSeated (Some k) seat
 
--- the number of a caller's player
-abbrev pub number_of : Caller → ℕ
-number_of c = (place_of c).who.number
-
-pub of-kernel : (k : Shared) (seat : Seat) → seat_kernel seat ≡ k → IsCaller k (seat_caller seat) → IsOf k seat
-of-kernel k seat is own = (ap (λ (j : Shared). Some j) is, subst (λ (j : Shared). IsCaller j (seat_caller seat)) (sym is) own)
+pub of-kernel : (k : Shared) (seat : Seat) → IsCaller k (seat_caller seat) → IsOf k seat
+of-kernel k seat own = (ap (λ (j : Shared). Some j) own.0, subst (λ (j : Shared). IsCaller j (seat_caller seat)) (sym own.0) own)
 
 pub kernel-of : (k : Shared) (seat : Seat) → IsOf k seat → seat_kernel seat ≡ k
 kernel-of k seat suits = let same = suits.0 in cc
@@ -70,32 +61,20 @@ numbers-of seats callers are = through seats ∙ ap (map number_of) are where
   through [] = refl
   through (x ∷ xs) = ap (λ (l : List ℕ). seat_number x ∷ l) (through xs)
 
-pub all-numbers : (k : Shared) (callers : List Caller) → AreAllCallers k callers → map number_of callers ≡ numbers_from 0 (length callers)
-all-numbers k callers all = numbered number_of callers 0 (λ p c there. all.numbers p c there ∙ omega arith)
-
 -- what came back of a pool is each number once
 pub once-back : (k : Shared) (callers : List Caller) (given back : List Seat) → AreAllCallers k callers → map seat_caller given ≡ callers → length back ≡ length given →
     ((n : ℕ) → tally n (map seat_number back) ≡ tally n (map seat_number given)) → (n : ℕ) → tally n (map seat_number back) ≡ tally n (numbers_from 0 (length back))
 once-back k callers given back all are long same n =
     let many : length callers ≡ length back = sym (ap (λ (l : List Caller). length l) are) ∙ length-map given seat_caller ∙ sym long in
-    same n ∙ ap (tally n) (numbers-of given callers are ∙ all-numbers k callers all) ∙ ap (λ (m : ℕ). tally n (numbers_from 0 m)) many
+    same n ∙ ap (tally n) (numbers-of given callers are) ∙ all.once n ∙ ap (λ (m : ℕ). tally n (numbers_from 0 m)) many
 
--- sorted by their numbers, the callers in the seats are all of their kernel
-pub all-unseated : (k : Shared) (seats sorted : List Seat) (callers : List Caller) → All (IsOf k) sorted →
-    ((n : ℕ) → tally n (map seat_number seats) ≡ tally n (numbers_from 0 (length seats))) → length seats ≡ length (players k.scenario.decls) →
-    IsPermutation seats sorted → length sorted ≡ length seats → IsNonDecreasingBy seat_number sorted → callers ≡ map seat_caller sorted → AreAllCallers k callers
-all-unseated k seats sorted callers of once many moved long up are =
+-- so the callers in the seats are all of their kernel
+pub all-unseated : (k : Shared) (seats : List Seat) (callers : List Caller) → All (IsOf k) seats → ((n : ℕ) → tally n (map seat_number seats) ≡ tally n (numbers_from 0 (length seats))) →
+    length seats ≡ length (players k.scenario.decls) → callers ≡ map seat_caller seats → AreAllCallers k callers
+all-unseated k seats callers of once many are =
+    let long : length (map seat_caller seats) ≡ length seats = length-map seats seat_caller in
     subst (AreAllCallers k) (sym are) (record {
-      own = All-map (IsCaller k) seat_caller sorted (All-weaker (IsOf k) (λ x. IsCaller k (seat_caller x)) (λ x is. caller-of k x is) sorted of);
-      all = length-map sorted seat_caller ∙ long ∙ many;
-      numbers = λ p c there. at p c (slice_get sorted p) refl (sym (slice_get-map seat_caller sorted p) ∙ there);
+      own = All-map (IsCaller k) seat_caller seats (All-weaker (IsOf k) (λ x. IsCaller k (seat_caller x)) (λ x is. caller-of k x is) seats of);
+      all = long ∙ many;
+      once = λ n. ap (tally n) (sym (numbers-of seats (map seat_caller seats) refl)) ∙ once n ∙ ap (λ (m : ℕ). tally n (numbers_from 0 m)) (sym long);
     })
-  where
-    at : (p : ℕ) (c : Caller) (o : Option Seat) → slice_get sorted p ≡ o → option_map seat_caller (slice_get sorted p) ≡ Some c → number_of c ≡ p
-    at p c None is told =
-        let none : None ≡ Some c = sym (ap (option_map seat_caller) is) ∙ told in
-        absurd (cc)
-    at p c (Some x) is told =
-        let found : Some (seat_caller x) ≡ Some c = sym (ap (option_map seat_caller) is) ∙ told in
-        let same : seat_caller x ≡ c = cc in
-        sym (ap number_of same) ∙ in-place seat_number seats sorted once moved long up p x is

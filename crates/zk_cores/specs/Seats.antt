@@ -1,8 +1,8 @@
 -- Inner: no contract of a top call is made of this file.
 -- The callers of a kernel in a pool, and the cores that play them.
-use Rattle.std.specs.Prelude.{◌≡◌, ℕ, zero, suc, ◌+◌, List, [], ◌∷◌}
+use Rattle.std.specs.Prelude.{◌≡◌, ℕ, []}
 use Rattle.zk_kernel.specs.declared.caller.Caller.{Caller}
-use Rattle.zk_kernel.specs.Callers.{IsCaller, place_of}
+use Rattle.zk_kernel.specs.Callers.{number_of, kernel_of, IsWhole}
 use Rattle.zk_cells.specs.Kernels.{Shared}
 use Rattle.zk_pool.specs.declared.pool.Pool.{Pool}
 use Rattle.zk_pool.specs.Keepers.{Keeps, keeper_aside}
@@ -13,17 +13,16 @@ use Rattle.zk_cores.specs.declared.cores.Core.{Core}
 abbrev pub seat_caller : Seat → Caller
 seat_caller seat = seat.caller.value
 
--- the number of its player
+-- the number of its player, and its kernel
 abbrev pub seat_number : Seat → ℕ
-seat_number seat = (place_of (seat_caller seat)).who.number
+seat_number seat = number_of (seat_caller seat)
 
--- the kernel that it was made for
 abbrev pub seat_kernel : Seat → Shared
-seat_kernel seat = seat.kernel.value
+seat_kernel seat = kernel_of (seat_caller seat)
 
 -- it is a caller of that kernel
 abbrev pub IsSeated : Seat → Type 0
-IsSeated seat = IsCaller (seat_kernel seat) (seat_caller seat)
+IsSeated seat = IsWhole (seat_caller seat)
 
 -- a core of this pool, whose hand holds just those whom it keeps
 abbrev pub IsAtWork : Pool Seat Shared → Core → Type 0
@@ -33,8 +32,3 @@ IsAtWork p core = Keeps seat_number seat_kernel IsSeated p core.keeper
 pub record IsReady (p : Pool Seat Shared) (core : Core) : Type 0 where
   pub at_work : IsAtWork p core
   pub none : keeper_aside core.keeper ≡ []
-
--- the numbers from this one on, so many
-abbrev pub numbers_from : ℕ → ℕ → List ℕ
-numbers_from first zero = []
-numbers_from first (suc n) = first ∷ numbers_from (first + 1) n

@@ -22,7 +22,7 @@ use zk_trace::Trace;
 /// The most cores that play a scenario.
 pub const MOST_CORES: u32 = 16;
 
-/// Plays the callers of a kernel on so many cores: all of them, where they came to, in the order of their numbers.
+/// Plays the callers of a kernel on so many cores: all of them, where they came to.
 fn play_callers<R: Threads + Wait + Sync, G: Gate + Sync>(
     rt: &R,
     alloc: Global,

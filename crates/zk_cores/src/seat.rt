@@ -1,9 +1,7 @@
 ghost use Rattle.std.specs.Prelude.{◌≡◌, IfOk};
-ghost use Rattle.zk_kernel.specs.Callers.{IsCaller};
 ghost use Rattle.zk_cores.specs.Seats.{seat_caller, seat_number, seat_kernel, IsSeated};
 
 use std::alloc::Global;
-use std::snapshot::Snapshot;
 use std::sync::Wait;
 use zk_base::NoMemory;
 use zk_kernel::{Caller, Kernel};
@@ -17,8 +15,6 @@ pub struct Seat {
     // What came of its last step, and before the first that it may go on. Where that wasn't possible it needn't be asked again before
     // it has news.
     pub(crate) last: Stepped,
-    // The kernel that it was made for; it has no bytes.
-    pub(crate) kernel: Snapshot<Kernel>,
 }
 
 impl Numbered for Seat {
@@ -38,11 +34,9 @@ impl Numbered for Seat {
 }
 
 impl Seat {
-    /// A seat for a caller of this kernel.
-    pub fn new(alloc: Global, kernel: &Kernel, caller: Caller) -> Result<Seat, NoMemory>
-        requires own { IsCaller kernel.now caller }
-        ensures caller { IfOk result (λ seat. seat_caller seat ≡ caller) }
-        ensures kernel { IfOk result (λ seat. seat_kernel seat ≡ kernel.now) }
+    /// A seat for a caller.
+    pub fn new(alloc: Global, caller: Caller) -> Result<Seat, NoMemory>
+        ensures { IfOk result (λ seat. seat_caller seat ≡ caller) }
     {
         let Ok(caller) = Box::new(alloc, caller) else {
             return Err(NoMemory);
@@ -50,7 +44,6 @@ impl Seat {
         Ok(Seat {
             caller,
             last: Stepped::Did,
-            kernel: Snapshot::of(kernel),
         })
     }
 

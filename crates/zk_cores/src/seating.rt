@@ -1,16 +1,15 @@
 ghost use Rattle.std.specs.Prelude.{◌≡◌, ◌<◌, ℕ, Some, length, map, All, IfOk};
 ghost use Rattle.zk_scenario.specs.Players.{players};
 ghost use Rattle.zk_kernel.specs.Callers.{IsCaller};
-ghost use Rattle.zk_kernel.specs.Rests.{AreAllCallers};
+ghost use Rattle.zk_kernel.specs.Rests.{AreAllCallers, numbers_from};
 ghost use Rattle.zk_pool.specs.Counts.{tally};
 ghost use Rattle.zk_pool.specs.Rule.{Suits};
-ghost use Rattle.zk_cores.specs.Seats.{seat_caller, seat_number, seat_kernel, IsSeated, numbers_from};
+ghost use Rattle.zk_cores.specs.Seats.{seat_caller, seat_number, seat_kernel, IsSeated};
 
 use crate::seat::Seat;
 use std::alloc::Global;
 use zk_base::{NoMemory, push_within};
 use zk_kernel::{Caller, Kernel};
-use zk_pool::Numbered;
 
 /// A seat for each caller of a kernel, in their order.
 pub fn seat_all(alloc: Global, kernel: &Kernel, callers: Vec<Caller>) -> Result<Vec<Seat>, NoMemory>
@@ -20,7 +19,7 @@ pub fn seat_all(alloc: Global, kernel: &Kernel, callers: Vec<Caller>) -> Result<
 {
     let mut seats = Vec::with_capacity(alloc, callers.len())?;
     for caller in callers {
-        let seat = Seat::new(alloc, kernel, caller)?;
+        let seat = Seat::new(alloc, caller)?;
         push_within(&mut seats, seat);
     }
     Ok(seats)
@@ -37,11 +36,11 @@ fn callers_of(alloc: Global, seats: Vec<Seat>) -> Result<Vec<Caller>, NoMemory>
     Ok(callers)
 }
 
-/// The callers in all these seats, in the order of their numbers.
+/// The callers in all these seats.
 pub fn unseat_all(
     alloc: Global,
     kernel: &Kernel,
-    mut seats: Vec<Seat>,
+    seats: Vec<Seat>,
 ) -> Result<Vec<Caller>, NoMemory>
     requires suits { All (Suits seat_number seat_kernel IsSeated (Some kernel.now)) seats.items }
     requires once { (n : ℕ) → tally n (map seat_number seats.items) ≡ tally n (numbers_from 0 (length seats.items)) }
@@ -49,6 +48,5 @@ pub fn unseat_all(
     ensures all { IfOk result (λ callers. AreAllCallers kernel.now callers.items) }
 {
     let _kernel = kernel;
-    seats.sort_unstable_by_key(|seat| seat.number());
     callers_of(alloc, seats)
 }

@@ -75,7 +75,7 @@ passes_send = search (pass_send, work_send, clock_send, table_send, sem_send, ms
 
 pub caller_send : IsSend caller.the_row
 caller_send = recorded_send _ _ _ caller.the_type.to_one
-    (struct_send (shape caller.the_type) (player_part, (search (passes_send, sendable, crosses) depth 20, (search sendable depth 14, tt))))
+    (struct_send (shape caller.the_type) (player_part, (search (passes_send, sendable, crosses) depth 20, (search sendable depth 14, (search (sendable, crosses) depth 20, tt)))))
 
 cells_part : IsSync (cells.the_field).row
 cells_part = struct_sync (shape cells.the_type) (

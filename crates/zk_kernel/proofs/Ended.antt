@@ -18,10 +18,9 @@ use Rattle.zk_cells.specs.declared.passes.Passes.{Passes}
 use Rattle.zk_kernel.specs.Callers.{IsAtDesk, IsCaller, place_of}
 use Rattle.zk_cells.specs.Closed.{AreInStep}
 use Rattle.zk_cells.specs.Desks.{IsServed}
-use Rattle.zk_kernel.specs.Gathered.{noted_by, found_at, all_noted, all_found}
+use Rattle.zk_kernel.specs.Gathered.{noted_by, found_at, all_noted, all_found, AreInOrder}
 use Rattle.zk_cells.specs.Kernels.{Shared}
 use Rattle.zk_cells.specs.Notes.{Write, stamp_of, stamp_noted, step_noted, entries_of, notes_at, writes_at, writes_to}
-use Rattle.zk_kernel.specs.Rests.{AreAllCallers}
 use Rattle.zk_cells.specs.Signals.{signals_by, top_by, IsOwnAt, HaveOwn, IsShownIn}
 use Rattle.zk_cells.proofs.Noted.{contains-none, contains-cases, contains-map, write-of-note}
 use Rattle.zk_cells.proofs.Shares.{shown-at}
@@ -131,13 +130,13 @@ caller-step c p who n m served at bt same lower =
 
 -- the passes of a caller
 pub passes-of : (k : Shared) (c : Caller) → IsCaller k c → (p : Passes) × (c.passes ≡ Some p) × IsServed k.cells p (place_of c).who
-passes-of k c is = from c.passes refl is
+passes-of k c is = from c.passes refl is.1
   where
     from : (o : Option Passes) → c.passes ≡ o → IsAtDesk k.cells k.scenario c.player o → (p : Passes) × (c.passes ≡ Some p) × IsServed k.cells p (place_of c).who
     from None at is = absurd is
     from (Some p) at is = (p, at, is.served)
 
-pub caller-at : (k : Shared) (callers : List Caller) (q : ℕ) (c : Caller) → AreAllCallers k callers → slice_get callers q ≡ Some c → IsCaller k c
+pub caller-at : (k : Shared) (callers : List Caller) (q : ℕ) (c : Caller) → AreInOrder k callers → slice_get callers q ≡ Some c → IsCaller k c
 caller-at k callers q c all is =
     subst (IsCaller k) (get_or_from_slice_get callers q c c is) (all.own q c (slice_get_within callers q c is))
 
@@ -149,13 +148,13 @@ note-by k c n is there =
     All-contains W own.0.notes.items n own.2.noted.own (subst (λ (o : Option Passes). Contains (noted_by o) n) own.1 there)
 
 -- one caller has this number
-pub one-caller : (k : Shared) (callers : List Caller) (q r : ℕ) (c d : Caller) → AreAllCallers k callers → slice_get callers q ≡ Some c → slice_get callers r ≡ Some d → (place_of c).who.number ≡ (place_of d).who.number → c ≡ d
+pub one-caller : (k : Shared) (callers : List Caller) (q r : ℕ) (c d : Caller) → AreInOrder k callers → slice_get callers q ≡ Some c → slice_get callers r ≡ Some d → (place_of c).who.number ≡ (place_of d).who.number → c ≡ d
 one-caller k callers q r c d all is at same =
     let place : q ≡ r = sym (all.numbers q c is) ∙ same ∙ all.numbers r d at in
     same_Some c d (sym is ∙ ap (slice_get callers) place ∙ at)
 
 -- all notes are in step
-pub all-in-step : (k : Shared) (callers : List Caller) → AreAllCallers k callers → AreInStep (all_noted callers)
+pub all-in-step : (k : Shared) (callers : List Caller) → AreInOrder k callers → AreInStep (all_noted callers)
 all-in-step k callers all n m at bt same player lower =
     let a = noted-from callers n at in
     let b = noted-from callers m bt in

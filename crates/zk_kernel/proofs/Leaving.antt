@@ -40,10 +40,9 @@ use Rattle.zk_cells.specs.Desks.{desk_shown}
 use Rattle.zk_cells.specs.Lasting.{Closes}
 use Rattle.zk_cells.specs.Notes.{Write, entries_of, writes_at}
 use Rattle.zk_cells.specs.Kernels.{Shared, AreWhole, IsMadeFor}
-use Rattle.zk_kernel.specs.Rests.{AreAllCallers}
 use Rattle.zk_cells.specs.Closed.{AreBy, AllBy, AreInStep, ArePlayed, ended}
 use Rattle.zk_cells.specs.Joined.{whos, numbers_of, left_at, HaveShared, AreFor}
-use Rattle.zk_kernel.specs.Gathered.{players_of, all_noted, all_found, IsAmong, AreGathered}
+use Rattle.zk_kernel.specs.Gathered.{players_of, all_noted, all_found, IsAmong, AreGathered, AreInOrder}
 use Rattle.zk_kernel.proofs.Ended.{all-in-step, noted-from, note-by, caller-at}
 use Rattle.zk_cells.proofs.Lasting.{closes-sound}
 use Rattle.zk_kernel.proofs.LeftBehind.{closes-caller}
@@ -106,11 +105,11 @@ left-sound s shown players valid many numbers kept legal by whole unlooked short
         omega (arith, same, slice_get_within players there.0 there.1 there.2)
 
 -- there are as many players as the scenario has
-pub many-players : (k : Shared) (callers : List Caller) (players : List PlayerPlace) → AreAllCallers k callers → players ≡ map place_of callers → length players ≡ length (scenario.players k.scenario.decls)
+pub many-players : (k : Shared) (callers : List Caller) (players : List PlayerPlace) → AreInOrder k callers → players ≡ map place_of callers → length players ≡ length (scenario.players k.scenario.decls)
 many-players k callers players all is = ap (λ (l : List PlayerPlace). length l) is ∙ length-map callers place_of ∙ all.all
 
 -- and each stands at its number
-pub numbered : (k : Shared) (callers : List Caller) (players : List PlayerPlace) → AreAllCallers k callers → players ≡ map place_of callers →
+pub numbered : (k : Shared) (callers : List Caller) (players : List PlayerPlace) → AreInOrder k callers → players ≡ map place_of callers →
     (p : ℕ) (at : PlayerPlace) → slice_get players p ≡ Some at → at.who.number ≡ p
 numbered k callers players all is p at there =
     let found = there-mapped place_of callers p at (sym (ap (λ (l : List PlayerPlace). slice_get l p) is) ∙ there) in
@@ -133,13 +132,13 @@ shared-all k cs callers all same gathered =
     subst (λ (c : Cells). HaveShared numbers (left_at all.notes.items) (all_found callers) c.signals.items all.signals.items) (sym same) shared
 
 -- those are all players that the services were made for
-pub whole-all : (k : Shared) (cs : Cells) (callers : List Caller) → cs ≡ k.cells → IsMadeFor k.cells k.scenario → AreAllCallers k callers → AreWhole cs (length (players_of callers))
+pub whole-all : (k : Shared) (cs : Cells) (callers : List Caller) → cs ≡ k.cells → IsMadeFor k.cells k.scenario → AreInOrder k callers → AreWhole cs (length (players_of callers))
 whole-all k cs callers same made callers-all =
     let long : length (players_of callers) ≡ length (scenario.players k.scenario.decls) = long-players callers ∙ callers-all.all in
     subst (λ (c : Cells). AreWhole c (length (players_of callers))) (sym same) (subst (AreWhole k.cells) (sym long) made.whole)
 
 -- and there are few of them
-pub stands-all : (k : Shared) (cs : Cells) (callers : List Caller) (all : Passes) → cs ≡ k.cells → IsMadeFor k.cells k.scenario → AreAllCallers k callers → AreGathered k.cells callers all →
+pub stands-all : (k : Shared) (cs : Cells) (callers : List Caller) (all : Passes) → cs ≡ k.cells → IsMadeFor k.cells k.scenario → AreInOrder k callers → AreGathered k.cells callers all →
     (ws : List Who) × (found : ℕ → List Seen) × AreFor cs ws all × HaveShared (numbers_of ws) (left_at all.notes.items) found cs.signals.items all.signals.items × AreWhole cs (length ws) × (length ws < 256)
 stands-all k cs callers all same made callers-all gathered =
     let ws = players_of callers in
@@ -150,11 +149,11 @@ stands-all k cs callers all same made callers-all gathered =
     (ws, all_found callers, for-all k cs callers all same gathered, shared-all k cs callers all same gathered, whole-all k cs callers same made callers-all, few)
 
 -- their notes are in step
-pub steps-all : (k : Shared) (callers : List Caller) (all : Passes) → AreAllCallers k callers → AreGathered k.cells callers all → AreInStep all.notes.items
+pub steps-all : (k : Shared) (callers : List Caller) (all : Passes) → AreInOrder k callers → AreGathered k.cells callers all → AreInStep all.notes.items
 steps-all k callers all callers-all gathered = subst AreInStep (sym gathered.notes) (all-in-step k callers callers-all)
 
 -- and of their players
-pub noted-by : (k : Shared) (callers : List Caller) (all : Passes) → AreAllCallers k callers → AreGathered k.cells callers all → AreBy (players_of callers) (entries_of all.notes.items)
+pub noted-by : (k : Shared) (callers : List Caller) (all : Passes) → AreInOrder k callers → AreGathered k.cells callers all → AreBy (players_of callers) (entries_of all.notes.items)
 noted-by k callers all callers-all gathered =
     let ws = players_of callers in
     let Q : Write → Type 0 = λ e. is_by ws e ≡ true in
@@ -169,7 +168,7 @@ noted-by k callers all callers-all gathered =
     (All-map Q (λ (n : Note). n.entry) (all_noted callers) (λ i d within. each (get_or (all_noted callers) i d) (Contains-get_or (all_noted callers) i d within)))
 
 -- what was shown to each caller goes on to what is shown in the end
-pub all-close : (k : Shared) (callers : List Caller) (all : Passes) (xs : List (Option Played)) → AreAllCallers k callers → AreGathered k.cells callers all →
+pub all-close : (k : Shared) (callers : List Caller) (all : Passes) (xs : List (Option Played)) → AreInOrder k callers → AreGathered k.cells callers all →
     ArePlayed (writes_at (all_noted callers)) (all_found callers) k.cells.signals.items xs →
     All (λ c. Closes (place_of c).who.number (shown_to c) (ended (desk_shown all) (histories_of signal_history xs))) callers
 all-close k callers all xs callers-all gathered played = λ i d within.
@@ -177,14 +176,14 @@ all-close k callers all xs callers-all gathered played = λ i d within.
 
 -- a caller's player and its log are sound by what was shown to it
 sound-of : (k : Shared) (c : Caller) → IsCaller k c → IsSoundPlayer k.scenario (shown_to c) (place_of c)
-sound-of k c is = from c.passes is
+sound-of k c is = from c.passes is.1
   where
     from : (o : Option Passes) → IsAtDesk k.cells k.scenario c.player o → IsSoundPlayer k.scenario (shown_by o) c.player
     from None is = absurd is
     from (Some p) is = is.sound
 
 -- and by what is shown in the end
-pub all-sound : (k : Shared) (callers : List Caller) (players : List PlayerPlace) (final : Shown) → AreAllCallers k callers → players ≡ map place_of callers →
+pub all-sound : (k : Shared) (callers : List Caller) (players : List PlayerPlace) (final : Shown) → AreInOrder k callers → players ≡ map place_of callers →
     All (λ c. Closes (place_of c).who.number (shown_to c) final) callers → All (IsSoundPlayer k.scenario final) players
 all-sound k callers players final callers-all is closes =
     let P : PlayerPlace → Type 0 = IsSoundPlayer k.scenario final in

@@ -21,11 +21,10 @@ use Rattle.zk_cells.specs.declared.passes.Passes.{Passes}
 use Rattle.zk_kernel.specs.Callers.{place_of, shown_to, shown_by}
 use Rattle.zk_cells.specs.Closed.{ended, IsPlayed, ArePlayed}
 use Rattle.zk_cells.specs.Desks.{IsServed, desk_shown}
-use Rattle.zk_kernel.specs.Gathered.{noted_by, found_at, all_noted, all_found}
+use Rattle.zk_kernel.specs.Gathered.{noted_by, found_at, all_noted, all_found, AreInOrder}
 use Rattle.zk_cells.specs.Kernels.{Shared}
 use Rattle.zk_cells.specs.Lasting.{late, IsLookAt, Closes}
 use Rattle.zk_cells.specs.Notes.{Write, nobody, unseen, stamp_of, writes_at, write_at}
-use Rattle.zk_kernel.specs.Rests.{AreAllCallers}
 use Rattle.zk_cells.specs.Signals.{signals_by, top_by, looks_by, looks_at_number, HaveOwn, IsOwnAt}
 use Rattle.zk_kernel.proofs.Ended.{noted-from, noted-in, found-in, shown-pass, noted-there, passes-of, caller-at, note-by, one-caller}
 use Rattle.zk_cells.proofs.Noted.{contains-at, note-of, write-of-note, own-or-unseen, stamp-write, write-own, at-stamp, at-place}
@@ -82,7 +81,7 @@ looks-closed who mine own found (s ∷ ss) (q ∷ ps) (x ∷ xs) (suc object) p 
     looks-closed who (λ k. mine (suc k)) (λ k. own (suc k)) (λ k. found (suc k)) ss ps xs object p have.1 all.1 (λ k. among (suc k)) is
 
 -- a caller's writes and looks at signals, and what the closed ones show
-module _ (k : Shared) (callers : List Caller) (all : AreAllCallers k callers) (xs : List (Option Played)) (played : ArePlayed (writes_at (all_noted callers)) (all_found callers) k.cells.signals.items xs)
+module _ (k : Shared) (callers : List Caller) (all : AreInOrder k callers) (xs : List (Option Played)) (played : ArePlayed (writes_at (all_noted callers)) (all_found callers) k.cells.signals.items xs)
     (q : ℕ) (c : Caller) (there : slice_get callers q ≡ Some c) (p : Passes) (passes : c.passes ≡ Some p) (served : IsServed k.cells p (place_of c).who) where
   abbrev number : ℕ
   number = (place_of c).who.number
@@ -185,7 +184,7 @@ module _ (k : Shared) (callers : List Caller) (all : AreAllCallers k callers) (x
   }
 
 -- each caller's, by its number
-pub closes-caller : (k : Shared) (callers : List Caller) (xs : List (Option Played)) (seen : Shown) (q : ℕ) (c : Caller) → AreAllCallers k callers →
+pub closes-caller : (k : Shared) (callers : List Caller) (xs : List (Option Played)) (seen : Shown) (q : ℕ) (c : Caller) → AreInOrder k callers →
     ArePlayed (writes_at (all_noted callers)) (all_found callers) k.cells.signals.items xs → slice_get callers q ≡ Some c →
     AllGrew (place_of c).who.number (shown_to c) (late (shown_to c) seen) → Closes (place_of c).who.number (shown_to c) (ended seen (histories_of signal_history xs))
 closes-caller k callers xs seen q c all played there grew =

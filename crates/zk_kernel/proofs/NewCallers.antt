@@ -57,10 +57,11 @@ use Rattle.zk_kernel.specs.declared.caller.Caller.{Caller}
 use Rattle.zk_cells.specs.declared.cells.Cells.{Cells}
 use Rattle.zk_cells.specs.declared.dealing.Undealt.{Undealt}
 use Rattle.zk_cells.specs.declared.passes.Passes.{Passes}
-use Rattle.zk_kernel.specs.Callers.{IsAtDesk, IsCaller, place_of, shown_by, counts_by}
+use Rattle.zk_kernel.specs.Callers.{IsAtDesk, IsCaller, number_of, place_of, shown_by, counts_by}
 use Rattle.zk_cells.specs.declared.notes.Note.{Note}
 use Rattle.zk_cells.specs.Dealt.{IsBegun, IsUnused, AreUnused, AreUndealt, IsDealt, AreNew, HasNew}
 use Rattle.zk_cells.specs.Desks.{IsServed, cells_machines, desk_shown, desk_counts, capped}
+use Rattle.std.specs.declared.snapshot.Snapshot.{Snapshot}
 use Rattle.zk_cells.specs.Joined.{whos}
 use Rattle.zk_cells.specs.Kernels.{Shared, AreWhole, IsMadeFor}
 use Rattle.zk_cells.specs.Notes.{Write, writes_at}
@@ -69,6 +70,8 @@ use Rattle.zk_cells.specs.Rows.{starts_in, holds_in}
 use Rattle.zk_visit.specs.Seats.{holds_at}
 use Rattle.zk_cells.specs.Signals.{signals_by, looks_in, IsShownIn, HaveOwn, AreNoted}
 use Rattle.zk_cells.proofs.NewShares.{all-sig-left-taken, own-new, shown-none, looks-none, idle-none}
+use Rattle.zk_pool.specs.Counts.{tally}
+use Rattle.zk_kernel.proofs.Numbers.{numbered}
 use Rattle.zk_kernel.proofs.SoundLooks.{player-seen}
 use Rattle.zk_cells.proofs.NewPasses.{left-taken, all-left-taken, at-new, seats-new, seen-new, idle-new, all-seen-new, all-idle-new}
 
@@ -225,20 +228,20 @@ new-taken c ws w old p new left taken = record {
 }
 
 -- one caller more, before those of the players behind its player
-pub one-dealt : (c : Cells) (left all : List PlayerPlace) (at : PlayerPlace) (old : Undealt) (p : Passes) (new : Undealt)
-    (callers more : List Caller) → all ≡ left ++ at ∷ [] → IsDealt old p new →
-    more ≡ callers ++ record { player = at; passes = Some p; stopped = false } ∷ [] →
-    AreUndealt c (whos all) old × All (IsUnplayed c) (reverse callers) →
-    AreUndealt c (whos left) new × All (IsUnplayed c) (reverse more)
-one-dealt c left all at old p new callers more split dealt added was =
-    let x : Caller = record { player = at; passes = Some p; stopped = false } in
+pub one-dealt : (k : Shared) (home : Snapshot Shared) (left all : List PlayerPlace) (at : PlayerPlace) (old : Undealt) (p : Passes) (new : Undealt)
+    (callers more : List Caller) → home.value ≡ k → all ≡ left ++ at ∷ [] → IsDealt old p new →
+    more ≡ callers ++ record { player = at; passes = Some p; stopped = false; kernel = home } ∷ [] →
+    AreUndealt k.cells (whos all) old × All (IsUnplayed k) (reverse callers) →
+    AreUndealt k.cells (whos left) new × All (IsUnplayed k) (reverse more)
+one-dealt k home left all at old p new callers more of split dealt added was =
+    let x : Caller = record { player = at; passes = Some p; stopped = false; kernel = home } in
     let last : whos all ≡ whos left ++ at.who ∷ [] =
     ap whos split ∙ map-append (λ (a : PlayerPlace). a.who) left (at ∷ []) in
-    let before = subst (λ (ws : List Who). AreUndealt c ws old) last was.0 in
+    let before = subst (λ (ws : List Who). AreUndealt k.cells ws old) last was.0 in
     let turned : reverse more ≡ x ∷ reverse callers = ap reverse added ∙ reverse-append callers (x ∷ []) in (
-      undealt-taken c (whos left) at.who old p new before dealt,
-      subst (All (IsUnplayed c)) (sym turned) (All-cons (IsUnplayed c) x (reverse callers)
-          (record { passes = new-taken c (whos left) at.who old p new before dealt; going = refl }) was.1),
+      undealt-taken k.cells (whos left) at.who old p new before dealt,
+      subst (All (IsUnplayed k)) (sym turned) (All-cons (IsUnplayed k) x (reverse callers)
+          (record { kernel = of; passes = new-taken k.cells (whos left) at.who old p new before dealt; going = refl }) was.1),
     )
 
 -- the players that are left, and those of the callers
@@ -382,14 +385,14 @@ made-for s at ws c p valid are opened same whole some = record {
 -- callers whose players start, with new passes, are all the new callers of their kernel
 pub callers-new : (k : Shared) (n : ℕ) (callers : List Caller) → IsValid k.scenario → cells_machines k.cells ≡ machines_of k.scenario →
     n ≡ length (players k.scenario.decls) → map place_of callers ≡ starts k.scenario n →
-    All (IsUnplayed k.cells) callers → AreNewCallers k callers
+    All (IsUnplayed k) callers → AreNewCallers k callers
 callers-new k n callers valid machines many items unplayed = record {
   all = record {
     own = λ p d within. own p (get_or callers p d) (slice_get-get_or callers p d within);
     all =
         (let long = ap (λ (l : List PlayerPlace). length l) items in
         omega (arith, length-map callers place_of, length-starts k.scenario n (omega arith)));
-    numbers = λ p c is. numbers-starts k.scenario n (omega arith) p (place_of c) (there p c is);
+    once = λ m. ap (tally m) (numbered number_of callers 0 (λ p c is. numbers-starts k.scenario n few-starts p (place_of c) (there p c is) ∙ omega arith));
   };
   new = λ p c is. record {
     stands = start p c is;
@@ -398,6 +401,9 @@ callers-new k n callers valid machines many items unplayed = record {
     going = (dealt p c is).going;
   };
 } where
+  few-starts : n ≤ length (players k.scenario.decls)
+  few-starts = omega arith
+
   there : (p : ℕ) (c : Caller) → slice_get callers p ≡ Some c → slice_get (starts k.scenario n) p ≡ Some (place_of c)
   there p c is = ap (λ (l : List PlayerPlace). slice_get l p) (sym items) ∙ slice_get-map place_of callers p
       ∙ ap (option_map place_of) is
@@ -405,9 +411,9 @@ callers-new k n callers valid machines many items unplayed = record {
   start : (p : ℕ) (c : Caller) → slice_get callers p ≡ Some c → start_at k.scenario p ≡ Some (place_of c)
   start p c is = starts-there k.scenario n (omega arith) p (place_of c) (there p c is)
 
-  dealt : (p : ℕ) (c : Caller) → slice_get callers p ≡ Some c → IsUnplayed k.cells c
-  dealt p c is = subst (IsUnplayed k.cells) (get_or_from_slice_get callers p c c is)
-      (All-get_or (IsUnplayed k.cells) callers p c (slice_get_within callers p c is) unplayed)
+  dealt : (p : ℕ) (c : Caller) → slice_get callers p ≡ Some c → IsUnplayed k c
+  dealt p c is = subst (IsUnplayed k) (get_or_from_slice_get callers p c c is)
+      (All-get_or (IsUnplayed k) callers p c (slice_get_within callers p c is) unplayed)
 
   -- numbers are below the number of players, and they are few
   few : (p : ℕ) (c : Caller) → slice_get callers p ≡ Some c → (place_of c).who.number < 2 ^ 32
@@ -422,4 +428,4 @@ callers-new k n callers valid machines many items unplayed = record {
       omega arith
 
   own : (p : ℕ) (c : Caller) → slice_get callers p ≡ Some c → IsCaller k c
-  own p c is = at-desk k.cells k.scenario p (place_of c) c.passes valid machines (few p c is) (start p c is) (dealt p c is).passes
+  own p c is = ((dealt p c is).kernel, at-desk k.cells k.scenario p (place_of c) c.passes valid machines (few p c is) (start p c is) (dealt p c is).passes)

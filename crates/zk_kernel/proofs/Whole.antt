@@ -1,15 +1,16 @@
 -- All callers of a kernel, as some of them go on.
-use Rattle.std.proofs.Common.{◌≡◌, ◌<◌, ℕ, Bool, true, false, cond, eqb, Some, List, length, set, get_or, refl, sym, ap, subst, ◌∙◌, arith}
+use Rattle.std.proofs.Common.{◌≡◌, ◌<◌, ℕ, suc, Bool, true, false, cond, eqb, Some, List, [], ◌∷◌, length, map, set, get_or, refl, sym, ap, subst, ◌∙◌, arith}
 use Rattle.std.specs.List.{slice_get}
 use Rattle.std.proofs.lemmas.Bool.{eqb-true}
 use Rattle.std.proofs.lemmas.List.{length-set}
-use Rattle.std.proofs.lemmas.Option.{slice_get_within, slice_get-get_or, slice_get_read, get_or_from_slice_get}
+use Rattle.std.proofs.lemmas.Option.{slice_get_within, slice_get-get_or, slice_get_read, get_or_from_slice_get, same_Some}
 use Rattle.zk_base.specs.declared.ids.Who.{Who}
 use Rattle.zk_line.proofs.Lists.{slice_get-set}
 use Rattle.zk_kernel.specs.declared.caller.Caller.{Caller}
-use Rattle.zk_kernel.specs.Callers.{IsCaller, place_of}
+use Rattle.zk_pool.specs.Counts.{tally}
+use Rattle.zk_kernel.specs.Callers.{IsCaller, number_of, place_of}
 use Rattle.zk_cells.specs.Kernels.{Shared}
-use Rattle.zk_kernel.specs.Rests.{AreAllCallers}
+use Rattle.zk_kernel.specs.Rests.{AreAllCallers, numbers_from}
 
 -- a caller is of the player that this one was of
 pub record IsAfter (k : Shared) (old : List Caller) (place : ℕ) (c : Caller) : Type 0 where
@@ -18,14 +19,26 @@ pub record IsAfter (k : Shared) (old : List Caller) (place : ℕ) (c : Caller) :
   pub stood : slice_get old place ≡ Some before
   pub same : (place_of c).who ≡ (place_of before).who
 
+-- their numbers are what they were
+numbers-still : (k : Shared) (old new : List Caller) → length new ≡ length old → ((p : ℕ) (c : Caller) → slice_get new p ≡ Some c → IsAfter k old p c) → map number_of new ≡ map number_of old
+numbers-still k [] [] long after = refl
+numbers-still k [] (d ∷ new) long after = absurd (omega arith)
+numbers-still k (c ∷ old) [] long after = absurd (omega arith)
+numbers-still k (c ∷ old) (d ∷ new) long after =
+    let first = after 0 d refl in
+    let one : c ≡ first.before = same_Some c first.before first.stood in
+    let same : number_of d ≡ number_of c = ap (λ (w : Who). w.number) first.same ∙ ap number_of (sym one) in
+    let rest = numbers-still k old new (omega arith) (λ p x there. let was = after (suc p) x there in
+    record { own = was.own; before = was.before; stood = was.stood; same = was.same }) in
+    ap (λ (n : ℕ). n ∷ map number_of new) same ∙ ap (λ (ns : List ℕ). number_of c ∷ ns) rest
+
 -- they are all callers still, if each is of the player that stood in its place
 pub all-still : (k : Shared) (old new : List Caller) → length new ≡ length old → ((p : ℕ) (c : Caller) → slice_get new p ≡ Some c → IsAfter k old p c) → AreAllCallers k old → AreAllCallers k new
 all-still k old new long after all = record {
   own = λ p d inside. (after p (get_or new p d) (slice_get-get_or new p d inside)).own;
   all = long ∙ all.all;
-  numbers = λ p c there.
-      let was = after p c there in
-      ap (λ (w : Who). w.number) was.same ∙ all.numbers p was.before was.stood;
+  once = λ n.
+      ap (tally n) (numbers-still k old new long after) ∙ all.once n ∙ ap (λ (m : ℕ). tally n (numbers_from 0 m)) (sym long);
 }
 
 -- one went on
@@ -35,7 +48,7 @@ one-on k old place c inside own same all = all-still k old (set old place c) (le
   after p x there = by (eqb place p) refl (sym (slice_get-set old place c p inside) ∙ there) where
     by : (b : Bool) → eqb place p ≡ b → cond b (Some c) (slice_get old p) ≡ Some x → IsAfter k old p x
     by true is here =
-        let one : c ≡ x = cc in
+        let one : c ≡ x = same_Some c x here in
         let at : place ≡ p = eqb-true place p is in
         record {
           own = subst (IsCaller k) one own;

@@ -1,6 +1,6 @@
 -- Inner: no contract of a top call is made of this file.
 -- A player with its passes of a kernel.
-use Rattle.std.specs.Prelude.{Bool, ◌&&◌, not, Option, Some, None, Result, Ok, []}
+use Rattle.std.specs.Prelude.{◌≡◌, ℕ, Bool, ◌&&◌, not, Option, Some, None, Result, Ok, []}
 use Rattle.zk_base.specs.declared.errors.NoMemory.{NoMemory}
 use Rattle.zk_scenario.specs.Content.{Content}
 use Rattle.zk_worker.specs.Attempt.{Counts}
@@ -20,6 +20,13 @@ use Rattle.zk_cells.specs.Kernels.{Shared}
 -- where its player stands
 abbrev pub place_of : Caller → PlayerPlace
 place_of c = c.player
+
+-- its player's number, and the kernel that it was made with
+abbrev pub number_of : Caller → ℕ
+number_of c = c.player.who.number
+
+abbrev pub kernel_of : Caller → Shared
+kernel_of c = c.kernel.value
 
 -- whether a stop has ended it
 abbrev pub is_stopped : Caller → Bool
@@ -64,4 +71,8 @@ IsAtDesk cells s at (Some p) = IsPlaying cells s at p
 
 -- it is a caller of this kernel
 abbrev pub IsCaller : Shared → Caller → Type 0
-IsCaller k c = IsAtDesk k.cells k.scenario c.player c.passes
+IsCaller k c = (kernel_of c ≡ k) × IsAtDesk k.cells k.scenario c.player c.passes
+
+-- it is one of the kernel that it was made with
+abbrev pub IsWhole : Caller → Type 0
+IsWhole c = IsCaller (kernel_of c) c

@@ -1,8 +1,9 @@
 -- Inner: no contract of a top call is made of this file.
 -- The passes of callers that are put together.
-use Rattle.std.specs.Prelude.{◌≡◌, ℕ, true, false, Option, Some, None, List, [], ◌∷◌, ◌++◌, map, All}
+use Rattle.std.specs.Prelude.{◌≡◌, ℕ, true, false, Option, Some, None, List, [], ◌∷◌, ◌++◌, length, map, slice_get, All}
 use Rattle.zk_base.specs.declared.ids.Who.{Who}
 use Rattle.zk_base.specs.declared.seen.Seen.{Seen}
+use Rattle.zk_scenario.specs.Players.{players}
 use Rattle.zk_turn.specs.Players.{has}
 use Rattle.zk_worker.specs.Shown.{OnlyOthersCame}
 use Rattle.zk_cells.specs.declared.cells.Cells.{Cells}
@@ -13,7 +14,8 @@ use Rattle.zk_cells.specs.Joined.{AreFor, whos, left_at, HaveShared, numbers_of}
 use Rattle.zk_cells.specs.Lasting.{late}
 use Rattle.zk_cells.specs.Signals.{looks_at_number}
 use Rattle.zk_kernel.specs.declared.caller.Caller.{Caller}
-use Rattle.zk_kernel.specs.Callers.{place_of, shown_to}
+use Rattle.zk_cells.specs.Kernels.{Shared}
+use Rattle.zk_kernel.specs.Callers.{IsCaller, number_of, place_of, shown_to}
 
 -- who the players of these callers are
 abbrev pub players_of : List Caller → List Who
@@ -56,3 +58,9 @@ pub record AreGathered (c : Cells) (callers : List Caller) (all : Passes) : Type
 abbrev pub AreTogether : Cells → List Caller → Option Passes → Type 0
 AreTogether c callers None = callers ≡ []
 AreTogether c callers (Some all) = AreGathered c callers all
+
+-- these are all the callers of a kernel, in the order of their numbers
+pub record AreInOrder (k : Shared) (callers : List Caller) : Type 0 where
+  pub own : All (IsCaller k) callers
+  pub all : length callers ≡ length (players k.scenario.decls)
+  pub numbers : (p : ℕ) (c : Caller) → slice_get callers p ≡ Some c → number_of c ≡ p

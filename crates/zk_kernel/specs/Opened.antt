@@ -5,16 +5,16 @@ use Rattle.zk_line.specs.declared.types.Decl.{Decl}
 use Rattle.zk_worker.specs.declared.steps.Step.{Step}
 use Rattle.zk_worker.specs.Protocol.{start_at}
 use Rattle.zk_worker.specs.Shown.{Shown, nothing_shown}
-use Rattle.zk_cells.specs.declared.cells.Cells.{Cells}
 use Rattle.zk_cells.specs.Dealt.{HasNew}
 use Rattle.zk_kernel.specs.declared.caller.Caller.{Caller}
-use Rattle.zk_kernel.specs.Callers.{place_of, shown_to, counts_of, is_stopped}
+use Rattle.zk_kernel.specs.Callers.{kernel_of, place_of, shown_to, counts_of, is_stopped}
 use Rattle.zk_cells.specs.Kernels.{Shared}
 use Rattle.zk_kernel.specs.Rests.{AreAllCallers}
 
--- a caller with new passes, which nothing has stopped
-pub record IsUnplayed (c : Cells) (caller : Caller) : Type 0 where
-  pub passes : HasNew c caller.player.who caller.passes
+-- a caller of this kernel with new passes, which nothing has stopped
+pub record IsUnplayed (k : Shared) (caller : Caller) : Type 0 where
+  pub kernel : kernel_of caller ≡ k
+  pub passes : HasNew k.cells caller.player.who caller.passes
   pub going : caller.stopped ≡ false
 
 -- nothing was shown of the services of these declarations, and no look at a signal or at an item

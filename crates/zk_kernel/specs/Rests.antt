@@ -1,6 +1,7 @@
 -- Inner: no contract of a top call is made of this file.
 -- What is left of a kernel after its callers.
-use Rattle.std.specs.Prelude.{◌≡◌, ℕ, true, Some, List, length, map, slice_get, slice_set, All}
+use Rattle.std.specs.Prelude.{◌≡◌, ℕ, zero, suc, ◌+◌, true, Some, List, [], ◌∷◌, length, map, slice_get, slice_set, All}
+use Rattle.zk_pool.specs.Counts.{tally}
 use Rattle.zk_scenario.specs.Content.{Content}
 use Rattle.zk_scenario.specs.Players.{players}
 use Rattle.zk_services.specs.Memory.{closes}
@@ -12,7 +13,7 @@ use Rattle.zk_worker.specs.Playing.{HasWanted, StepOutcome}
 use Rattle.zk_world.specs.Sound.{IsSound}
 use Rattle.zk_world.specs.World.{World}
 use Rattle.zk_kernel.specs.declared.caller.Caller.{Caller}
-use Rattle.zk_kernel.specs.Callers.{IsCaller, place_of, shown_to}
+use Rattle.zk_kernel.specs.Callers.{IsCaller, number_of, place_of, shown_to}
 use Rattle.zk_cells.specs.Kernels.{Shared}
 use Rattle.zk_cells.specs.Lasting.{Closes}
 
@@ -21,20 +22,26 @@ pub record Left : Type 0 where
   pub scenario : Content
   pub world : World
 
--- these are all the callers that a kernel was made with, in the order of their numbers
+-- so many numbers, from this one on
+abbrev pub numbers_from : ℕ → ℕ → List ℕ
+numbers_from first zero = []
+numbers_from first (suc n) = first ∷ numbers_from (first + 1) n
+
+-- these are all the callers that a kernel was made with, in any order: each number is that of one of them
 pub record AreAllCallers (k : Shared) (callers : List Caller) : Type 0 where
   pub own : All (IsCaller k) callers
   pub all : length callers ≡ length (players k.scenario.decls)
-  pub numbers : (p : ℕ) (c : Caller) → slice_get callers p ≡ Some c → (place_of c).who.number ≡ p
+  pub once : (n : ℕ) → tally n (map number_of callers) ≡ tally n (numbers_from 0 (length callers))
 
--- what a kernel leaves whose callers came to these ends: each player stands where its caller left it. (What the services
--- show then is told by `IsSound`: of each player just its log, and no other entry)
+-- what a kernel leaves whose callers came to these ends: each player stands, at its number, where its caller left it. (What the
+-- services show then is told by `IsSound`: of each player just its log, and no other entry)
 pub record HasClosed (k : Shared) (callers : List Caller) (left : Left) : Type 0 where
   pub scenario : left.scenario ≡ k.scenario
-  pub players : left.world.players ≡ map place_of callers
+  pub count : length left.world.players ≡ length callers
+  pub players : All (λ c. slice_get left.world.players (number_of c) ≡ Some (place_of c)) callers
   -- each history goes on from what each caller has seen of it: by entries of others, which at signals stand where it had seen
   -- writes of nobody
-  pub seen : All (λ c. Closes (place_of c).who.number (shown_to c) left.world.shown) callers
+  pub seen : All (λ c. Closes (number_of c) (shown_to c) left.world.shown) callers
   pub sound : IsSound left.scenario left.world
 
 -- a player of what is left made a step, or none for the cause that is told; all other players stand as they stood

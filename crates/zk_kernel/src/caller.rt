@@ -9,15 +9,17 @@ ghost use Rattle.zk_cells.specs.Memory.{wants_none};
 ghost use Rattle.zk_kernel.specs.Callers.{IsCaller, place_of, shown_to, counts_of, is_stopped, lives};
 
 use crate::kernel::Kernel;
+use std::snapshot::Snapshot;
 use std::sync::Wait;
 use zk_base::{NoMemory, Who};
 use zk_cells::{Desk, Passes};
 use zk_line::Call;
+use zk_pool::Numbered;
 use zk_worker::{Mode, Player, Step, Stepped};
 
 /// One player at a kernel: a pass for each of its services, and the player's own log.
 ///
-/// It may go from thread to thread, and each of its calls takes the kernel that it was made with.
+/// It may go from thread to thread, and in a pool from hand to hand. Each of its calls takes the kernel that it was made with.
 #[derive(Drop)]
 pub struct Caller {
     pub(crate) player: Player,
@@ -25,6 +27,24 @@ pub struct Caller {
     pub(crate) passes: Option<Passes>,
     // A call was ended by want of memory or by the last of its steps.
     pub(crate) stopped: bool,
+    // The kernel that it was made with; it has no bytes.
+    pub(crate) kernel: Snapshot<Kernel>,
+}
+
+impl Numbered for Caller {
+    type Home = Kernel;
+
+    ghost use Rattle.zk_kernel.specs.Callers.{number_of, kernel_of, IsWhole};
+
+    ghost number = { number_of };
+
+    ghost home = { kernel_of };
+
+    ghost kept = { IsWhole };
+
+    fn number(&self) -> u32 {
+        self.player.who().number
+    }
 }
 
 impl Caller {

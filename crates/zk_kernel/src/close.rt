@@ -1,8 +1,8 @@
-ghost use Rattle.std.specs.Prelude.{◌≡◌, ◌+◌, ◌<◌, ◌≤◌, ◌++◌, ◌∷◌, [], List, Some, map, IfOk, vec_len, vec_capacity};
+ghost use Rattle.std.specs.Prelude.{◌≡◌, ◌+◌, ◌<◌, ◌≤◌, ◌++◌, ◌∷◌, [], List, Some, length, map, IsPermutation, IfOk, vec_len, vec_capacity};
 ghost use Rattle.zk_kernel.specs.declared.caller.Caller.{Caller};
 ghost use Rattle.zk_kernel.specs.Callers.{IsCaller, place_of};
 ghost use Rattle.zk_cells.specs.Desks.{IsServed};
-ghost use Rattle.zk_kernel.specs.Gathered.{AreTogether, AreGathered};
+ghost use Rattle.zk_kernel.specs.Gathered.{AreTogether, AreGathered, AreInOrder};
 ghost use Rattle.zk_kernel.specs.Rests.{AreAllCallers, HasClosed};
 
 use crate::caller::Caller;
@@ -50,6 +50,7 @@ fn gather_one(
         player,
         passes,
         stopped: _,
+        kernel: _,
     } = caller;
     let Some(passes) = passes else { unreachable!() };
     push_within(players, player);
@@ -62,7 +63,7 @@ fn gather_all(
     kernel: &Kernel,
     mut callers: Vec<Caller>,
 ) -> Result<(Passes, Vec<Player>), NoMemory>
-    requires all { AreAllCallers kernel.now callers.items }
+    requires all { AreInOrder kernel.now callers.items }
     ensures together { IfOk result (λ made. AreGathered kernel.now.cells callers.items made.0) }
     ensures players { IfOk result (λ made. made.1.items ≡ map place_of callers.items) }
 {
@@ -77,18 +78,30 @@ fn gather_all(
     Ok((all, players))
 }
 
+/// Puts all callers of a kernel in the order of their numbers.
+fn put_in_order(kernel: &Kernel, callers: &mut Vec<Caller>)
+    requires all { AreAllCallers kernel.now callers.old.items }
+    ensures order { AreInOrder kernel.now callers.new.items }
+    ensures same { IsPermutation callers.old.items callers.new.items }
+    ensures count { length callers.new.items ≡ length callers.old.items }
+{
+    let _kernel = kernel;
+    callers.sort_unstable_by_key(|caller| caller.who().number);
+}
+
 impl Kernel {
-    /// Takes the services out of their cells, for all callers that the kernel was made with, in the order of their numbers, and
+    /// Takes the services out of their cells, for all callers that the kernel was made with, in whatever order they stand, and
     /// plays their writes at signals in the order of the stamps.
     ///
     /// A refusal of memory gives all of it up. A caller that a stop has ended comes back with the others: its player goes
     /// on from its log.
-    pub fn close(self, alloc: Global, callers: Vec<Caller>) -> Result<Rest, NoMemory>
+    pub fn close(self, alloc: Global, mut callers: Vec<Caller>) -> Result<Rest, NoMemory>
         requires all { AreAllCallers self callers.items }
 
         // What is left is sound: of each player just its log is shown, and there is no other entry.
         ensures closed { IfOk result (λ rest. HasClosed self callers.items rest) }
     {
+        put_in_order(&self, &mut callers);
         let (all, players) = gather_all(alloc, &self, callers)?;
         let (cells, scenario) = self.into_parts();
         let services = empty_cells(alloc, cells, all)?;

@@ -37,7 +37,8 @@ impl Kernel {
         let players = first_players(alloc, &own)?;
         let whos = whos_of(alloc, &players)?;
         let (cells, undealt) = open_cells(alloc, services, &whos)?;
-        let callers = deal_all(alloc, players, undealt)?;
-        Ok((Kernel::of(cells, own), callers))
+        let kernel = Kernel::of(cells, own);
+        let callers = deal_all(alloc, &kernel, players, undealt)?;
+        Ok((kernel, callers))
     }
 }

@@ -19,14 +19,14 @@ loop-caller-preserved c =
     let long = length-append l.yielded (x ∷ []) in
     let steps = c.in-Some.ensures.steps.0 in
     let all = subst (All (IsCaller k)) steps l.invariant.own in
-    let own = subst (IsCaller k) (sym one.caller) (All-head (IsCaller k) x _ all) in
+    let own = subst (IsCaller k) (sym one) (All-head (IsCaller k) x _ all) in
     record {
       items = append_assoc l.yielded (x ∷ []) _ ∙ ap (λ rest. l.yielded ++ rest) (sym steps) ∙ l.invariant.items;
       own = All-tail (IsCaller k) x _ all;
       callers = ap (map seat_caller) seats.items ∙ map-append seat_caller l.seats.items (seat ∷ [])
-          ∙ ap (λ rest. rest ++ seat_caller seat ∷ []) l.invariant.callers ∙ ap (λ caller. l.yielded ++ caller ∷ []) one.caller;
+          ∙ ap (λ rest. rest ++ seat_caller seat ∷ []) l.invariant.callers ∙ ap (λ caller. l.yielded ++ caller ∷ []) one;
       suits = subst (All (IsOf k)) (sym seats.items)
-          (All-push (IsOf k) l.seats.items seat l.invariant.suits (of-kernel k seat one.kernel own));
+          (All-push (IsOf k) l.seats.items seat l.invariant.suits (of-kernel k seat own));
       made = (let len = seats.len in omega arith);
       room = (let kept = seats.capacity in omega arith);
     }

@@ -13,7 +13,7 @@ put_together-requires c =
     let x = c.args.caller in
     let same = c.cells.ensures.cells in
     let all = c.requires.all in
-    let playing = subst (λ (o : Option Passes). IsAtDesk k.cells k.scenario x.player o) c.in-Some.is c.requires.own in
+    let playing = subst (λ (o : Option Passes). IsAtDesk k.cells k.scenario x.player o) c.in-Some.is c.requires.own.1 in
     record {
       all = (
         all.0,
@@ -28,5 +28,5 @@ pub returns-clause-all : goal.returns-clause-all
 returns-clause-all c =
     let k = c.args.kernel.now in
     let x = c.args.caller in
-    let playing = subst (λ (o : Option Passes). IsAtDesk k.cells k.scenario x.player o) c.in-Some.is c.requires.own in
+    let playing = subst (λ (o : Option Passes). IsAtDesk k.cells k.scenario x.player o) c.in-Some.is c.requires.own.1 in
     gathered-next c.cells.result.now k.cells c.args.all c.in-Some.passes x c.put_together.result c.cells.ensures.cells c.in-Some.is playing.served c.put_together.ensures

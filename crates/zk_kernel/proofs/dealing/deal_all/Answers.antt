@@ -13,10 +13,10 @@ loop-player-preserved c =
     let fewer = c.in-Some.ensures.cases in
     record {
       players = one-placed c.pop.new.self.items l.players.items c.args.players.items
-          (record { player = c.in-Some.player; passes = Some c.in_ok-passes.passes; stopped = false }) l.callers.items
+          (record { player = c.in-Some.player; passes = Some c.in_ok-passes.passes; stopped = false; kernel = c.of.result }) l.callers.items
           c.push_within.new.items.items split added l.invariant.players;
-      new = λ cells undealt. one-dealt cells c.pop.new.self.items l.players.items c.in-Some.player l.undealt
-          c.in_ok-passes.passes c.deal_passes.new.undealt l.callers.items c.push_within.new.items.items split
-          c.in_ok-passes.ensures added (l.invariant.new cells undealt);
+      new = λ undealt. one-dealt c.args.kernel.now c.of.result c.pop.new.self.items l.players.items c.in-Some.player l.undealt
+          c.in_ok-passes.passes c.deal_passes.new.undealt l.callers.items c.push_within.new.items.items c.of.ensures split
+          c.in_ok-passes.ensures added (l.invariant.new undealt);
       room = omega arith;
     }

@@ -1,5 +1,4 @@
 use Rattle.std.proofs.Common.{◌≡◌, ◌+◌, ◌≤◌, ◌++◌, map, reverse, All, vec_len, vec_capacity}
-use Rattle.zk_cells.specs.declared.cells.Cells.{Cells}
 use Rattle.zk_kernel.specs.Callers.{place_of}
 use Rattle.zk_cells.specs.Dealt.{AreUndealt}
 use Rattle.zk_kernel.specs.Opened.{IsUnplayed}
@@ -10,8 +9,8 @@ use Rattle.zk_kernel.proofs.dealing.deal_all.Given as goal
 abbrev pub invariant-loop-player : goal.invariant-loop-player
 invariant-loop-player l = record {
   players : l.players.items ++ map place_of (reverse l.callers.items) ≡ l.fn.players.items;
-  new : (c : Cells) → AreUndealt c (whos l.fn.players.items) l.fn.undealt →
-      AreUndealt c (whos l.players.items) l.undealt × All (IsUnplayed c) (reverse l.callers.items);
+  new : AreUndealt l.kernel.cells (whos l.fn.players.items) l.fn.undealt →
+      AreUndealt l.kernel.cells (whos l.players.items) l.undealt × All (IsUnplayed l.kernel) (reverse l.callers.items);
   room : vec_len l.callers + vec_len l.players ≤ vec_capacity l.callers;
 }
 

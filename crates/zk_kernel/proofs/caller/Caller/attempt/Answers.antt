@@ -22,7 +22,7 @@ pub attempt-reply-requires-clause-served : goal.attempt-reply-requires-clause-se
 attempt-reply-requires-clause-served g c =
     let k = c.args.kernel.now in
     let at = c.args.self.now.player in
-    let was = subst (λ (o : Option Passes). IsAtDesk k.cells k.scenario at o) (sym c.take.ensures.value ∙ c.in-Some.is) c.requires.own in
+    let was = subst (λ (o : Option Passes). IsAtDesk k.cells k.scenario at o) (sym c.take.ensures.value ∙ c.in-Some.is) c.requires.own.1 in
     subst (λ (w : Who). IsServed c.cells-cells.result.now c.in-Some.passes w) (sym c.who.ensures)
     (subst (λ (cs : Cells). IsServed cs c.in-Some.passes at.who) (sym c.cells-cells.ensures.cells) was.served)
 
@@ -30,7 +30,7 @@ pub attempt-reply-requires-clause-range : goal.attempt-reply-requires-clause-ran
 attempt-reply-requires-clause-range g c =
     let k = c.args.kernel.now in
     let at = c.args.self.now.player in
-    let was = subst (λ (o : Option Passes). IsAtDesk k.cells k.scenario at o) (sym c.take.ensures.value ∙ c.in-Some.is) c.requires.own in
+    let was = subst (λ (o : Option Passes). IsAtDesk k.cells k.scenario at o) (sym c.take.ensures.value ∙ c.in-Some.is) c.requires.own.1 in
     let made = c.cells-cells.ensures.made in
     ahead-takes k.scenario (cells_machines c.cells-cells.result.now) at made.valid (ap cells_machines c.cells-cells.ensures.cells ∙ made.machines) was.sound.fits
     c.args.step.now c.requires.ahead
@@ -39,7 +39,7 @@ pub attempt-reply-requires-clause-later : goal.attempt-reply-requires-clause-lat
 attempt-reply-requires-clause-later g c =
     let k = c.args.kernel.now in
     let at = c.args.self.now.player in
-    let was = subst (λ (o : Option Passes). IsAtDesk k.cells k.scenario at o) (sym c.take.ensures.value ∙ c.in-Some.is) c.requires.own in
+    let was = subst (λ (o : Option Passes). IsAtDesk k.cells k.scenario at o) (sym c.take.ensures.value ∙ c.in-Some.is) c.requires.own.1 in
     let shown = desk_shown c.in-Some.passes in
     subst (λ (n : ℕ). IsLater shown c.who.result.number n) (sym c.steps.ensures.count)
     (subst (λ (w : Who). IsLater shown w.number (length at.spots)) (sym c.who.ensures) (log-later at.who.number at.spots shown was.sound.log))
@@ -50,12 +50,13 @@ returns-in_err-reply-clause-own g c =
     let at = c.args.self.now.player in
     let old = c.in-Some.passes in
     let new = c.attempt-reply.new.self.passes in
-    let was = subst (λ (o : Option Passes). IsAtDesk k.cells k.scenario at o) (sym c.take.ensures.value ∙ c.in-Some.is) c.requires.own in
+    let was = subst (λ (o : Option Passes). IsAtDesk k.cells k.scenario at o) (sym c.take.ensures.value ∙ c.in-Some.is) c.requires.own.1 in
     let m = cells_machines c.cells-cells.result.now in
     let others = attempted-err false false m m at.who c.who.result (length at.spots) c.steps.result c.args.step.now (desk_shown old) (desk_shown new) c.in_err-reply.field-0.0
     refl refl c.who.ensures c.steps.ensures.count c.in_err-reply.ensures.attempted in
-    playing-on c.cells-cells.result.now k.cells k.scenario at at c.attempt-reply.new.self.cells.now old new c.cells-cells.ensures.cells c.attempt-reply.ensures.home refl was.served
-    (c.attempt-reply.ensures.serves at.who).0 (player-still false k.scenario at (desk_shown old) (desk_shown new) others was.sound)
+    let playing = playing-on c.cells-cells.result.now k.cells k.scenario at at c.attempt-reply.new.self.cells.now old new c.cells-cells.ensures.cells c.attempt-reply.ensures.home refl was.served
+    (c.attempt-reply.ensures.serves at.who).0 (player-still false k.scenario at (desk_shown old) (desk_shown new) others was.sound) in
+    (c.requires.own.0, playing)
 
 pub returns-in_default-2-clause-own : goal.returns-in_default-2-clause-own
 returns-in_default-2-clause-own g c =
@@ -63,12 +64,13 @@ returns-in_default-2-clause-own g c =
     let at = c.args.self.now.player in
     let old = c.in-Some.passes in
     let new = c.attempt-reply.new.self.passes in
-    let was = subst (λ (o : Option Passes). IsAtDesk k.cells k.scenario at o) (sym c.take.ensures.value ∙ c.in-Some.is) c.requires.own in
+    let was = subst (λ (o : Option Passes). IsAtDesk k.cells k.scenario at o) (sym c.take.ensures.value ∙ c.in-Some.is) c.requires.own.1 in
     let m = cells_machines c.cells-cells.result.now in
     let none = attempted-none false false m m at.who c.who.result (length at.spots) c.steps.result c.args.step.now (desk_shown old) (desk_shown new) c.in_ok-reply.field-0
     refl refl c.who.ensures c.steps.ensures.count c.in_ok-reply.ensures.attempted c.in_default-2.is in
-    playing-on c.cells-cells.result.now k.cells k.scenario at at c.attempt-reply.new.self.cells.now old new c.cells-cells.ensures.cells c.attempt-reply.ensures.home refl was.served
-    (c.attempt-reply.ensures.serves at.who).0 (player-still false k.scenario at (desk_shown old) (desk_shown new) none.0 was.sound)
+    let playing = playing-on c.cells-cells.result.now k.cells k.scenario at at c.attempt-reply.new.self.cells.now old new c.cells-cells.ensures.cells c.attempt-reply.ensures.home refl was.served
+    (c.attempt-reply.ensures.serves at.who).0 (player-still false k.scenario at (desk_shown old) (desk_shown new) none.0 was.sound) in
+    (c.requires.own.0, playing)
 
 pub returns-clause-own : goal.returns-clause-own
 returns-clause-own g c =
@@ -77,17 +79,18 @@ returns-clause-own g c =
     let next = c.made.new.self in
     let old = c.in-Some.passes in
     let new = c.attempt-reply.new.self.passes in
-    let was = subst (λ (o : Option Passes). IsAtDesk k.cells k.scenario at o) (sym c.take.ensures.value ∙ c.in-Some.is) c.requires.own in
+    let was = subst (λ (o : Option Passes). IsAtDesk k.cells k.scenario at o) (sym c.take.ensures.value ∙ c.in-Some.is) c.requires.own.1 in
     let cells = c.cells-cells.result.now in
     let m = cells_machines cells in
     let kernel = c.cells-cells.ensures.made in
     let made = attempted-some false false m m at.who c.who.result (length at.spots) c.steps.result c.args.step.now (desk_shown old) (desk_shown new) c.in_ok-reply.field-0 c.in-Some-2.reply
     refl refl c.who.ensures c.steps.ensures.count c.in_ok-reply.ensures.attempted c.in-Some-2.is in
     let led = c.made.ensures.next ∙ ap (λ (s : Content). after s at c.args.step.now c.in-Some-2.reply) c.scenario.ensures.scenario in
-    playing-on cells k.cells k.scenario at next c.attempt-reply.new.self.cells.now old new c.cells-cells.ensures.cells c.attempt-reply.ensures.home
+    let playing = playing-on cells k.cells k.scenario at next c.attempt-reply.new.self.cells.now old new c.cells-cells.ensures.cells c.attempt-reply.ensures.home
     (ap (λ (a : PlayerPlace). a.who) led ∙ (after-spots k.scenario at c.args.step.now c.in-Some-2.reply).0) was.served (c.attempt-reply.ensures.serves at.who).0
     (player-made false m k.scenario at next c.args.step.now c.in-Some-2.reply (desk_shown old) (desk_shown new) kernel.valid (ap cells_machines c.cells-cells.ensures.cells ∙ kernel.machines)
-    was.sound c.requires.ahead made led)
+    was.sound c.requires.ahead made led) in
+    (c.requires.own.0, playing)
 
 pub returns-clause-who : goal.returns-clause-who
 returns-clause-who g c =

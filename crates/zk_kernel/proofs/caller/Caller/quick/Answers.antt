@@ -20,7 +20,7 @@ pub quick_attempt-reply-requires-clause-served : goal.quick_attempt-reply-requir
 quick_attempt-reply-requires-clause-served c =
     let k = c.args.kernel.now in
     let at = c.args.self.now.player in
-    let was = subst (λ (o : Option Passes). IsAtDesk k.cells k.scenario at o) (sym c.take.ensures.value ∙ c.in-Some.is) c.requires.own in
+    let was = subst (λ (o : Option Passes). IsAtDesk k.cells k.scenario at o) (sym c.take.ensures.value ∙ c.in-Some.is) c.requires.own.1 in
     subst (λ (w : Who). IsServed c.cells-cells.result.now c.in-Some.passes w) (sym c.who.ensures)
     (subst (λ (cs : Cells). IsServed cs c.in-Some.passes at.who) (sym c.cells-cells.ensures.cells) was.served)
 
@@ -28,7 +28,7 @@ pub quick_attempt-reply-requires-clause-range : goal.quick_attempt-reply-require
 quick_attempt-reply-requires-clause-range c =
     let k = c.args.kernel.now in
     let at = c.args.self.now.player in
-    let was = subst (λ (o : Option Passes). IsAtDesk k.cells k.scenario at o) (sym c.take.ensures.value ∙ c.in-Some.is) c.requires.own in
+    let was = subst (λ (o : Option Passes). IsAtDesk k.cells k.scenario at o) (sym c.take.ensures.value ∙ c.in-Some.is) c.requires.own.1 in
     let made = c.cells-cells.ensures.made in
     ahead-takes k.scenario (cells_machines c.cells-cells.result.now) at made.valid (ap cells_machines c.cells-cells.ensures.cells ∙ made.machines) was.sound.fits
     c.args.step.now c.requires.ahead
@@ -37,7 +37,7 @@ pub quick_attempt-reply-requires-clause-later : goal.quick_attempt-reply-require
 quick_attempt-reply-requires-clause-later c =
     let k = c.args.kernel.now in
     let at = c.args.self.now.player in
-    let was = subst (λ (o : Option Passes). IsAtDesk k.cells k.scenario at o) (sym c.take.ensures.value ∙ c.in-Some.is) c.requires.own in
+    let was = subst (λ (o : Option Passes). IsAtDesk k.cells k.scenario at o) (sym c.take.ensures.value ∙ c.in-Some.is) c.requires.own.1 in
     let shown = desk_shown c.in-Some.passes in
     subst (λ (n : ℕ). IsLater shown c.who.result.number n) (sym c.steps.ensures.count)
     (subst (λ (w : Who). IsLater shown w.number (length at.spots)) (sym c.who.ensures) (log-later at.who.number at.spots shown was.sound.log))
@@ -48,14 +48,15 @@ returns-in_default-reply-clause-own c =
     let at = c.args.self.now.player in
     let old = c.in-Some.passes in
     let new = c.quick_attempt-reply.new.passes in
-    let was = subst (λ (o : Option Passes). IsAtDesk k.cells k.scenario at o) (sym c.take.ensures.value ∙ c.in-Some.is) c.requires.own in
+    let was = subst (λ (o : Option Passes). IsAtDesk k.cells k.scenario at o) (sym c.take.ensures.value ∙ c.in-Some.is) c.requires.own.1 in
     let cells = c.cells-cells.result.now in
     let m = cells_machines cells in
     let none = attempted-none false false m m at.who c.who.result (length at.spots) c.steps.result c.args.step.now (desk_shown old) (desk_shown new) c.quick_attempt-reply.result
     refl refl c.who.ensures c.steps.ensures.count c.quick_attempt-reply.ensures.attempted c.in_default-reply.is in
-    playing-on cells k.cells k.scenario at at cells old new c.cells-cells.ensures.cells refl refl was.served
+    let playing = playing-on cells k.cells k.scenario at at cells old new c.cells-cells.ensures.cells refl refl was.served
     (λ served. subst (λ (w : Who). IsServed cells new w) c.who.ensures c.quick_attempt-reply.ensures.served)
-    (player-still false k.scenario at (desk_shown old) (desk_shown new) none.0 was.sound)
+    (player-still false k.scenario at (desk_shown old) (desk_shown new) none.0 was.sound) in
+    (c.requires.own.0, playing)
 
 pub returns-clause-own : goal.returns-clause-own
 returns-clause-own c =
@@ -64,18 +65,19 @@ returns-clause-own c =
     let next = c.made.new.self in
     let old = c.in-Some.passes in
     let new = c.quick_attempt-reply.new.passes in
-    let was = subst (λ (o : Option Passes). IsAtDesk k.cells k.scenario at o) (sym c.take.ensures.value ∙ c.in-Some.is) c.requires.own in
+    let was = subst (λ (o : Option Passes). IsAtDesk k.cells k.scenario at o) (sym c.take.ensures.value ∙ c.in-Some.is) c.requires.own.1 in
     let cells = c.cells-cells.result.now in
     let m = cells_machines cells in
     let kernel = c.cells-cells.ensures.made in
     let made = attempted-some false false m m at.who c.who.result (length at.spots) c.steps.result c.args.step.now (desk_shown old) (desk_shown new) c.quick_attempt-reply.result c.in-Some-reply.reply
     refl refl c.who.ensures c.steps.ensures.count c.quick_attempt-reply.ensures.attempted c.in-Some-reply.is in
     let led = c.made.ensures.next ∙ ap (λ (s : Content). after s at c.args.step.now c.in-Some-reply.reply) c.scenario.ensures.scenario in
-    playing-on cells k.cells k.scenario at next cells old new c.cells-cells.ensures.cells refl
+    let playing = playing-on cells k.cells k.scenario at next cells old new c.cells-cells.ensures.cells refl
     (ap (λ (a : PlayerPlace). a.who) led ∙ (after-spots k.scenario at c.args.step.now c.in-Some-reply.reply).0) was.served
     (λ served. subst (λ (w : Who). IsServed cells new w) c.who.ensures c.quick_attempt-reply.ensures.served)
     (player-made false m k.scenario at next c.args.step.now c.in-Some-reply.reply (desk_shown old) (desk_shown new) kernel.valid (ap cells_machines c.cells-cells.ensures.cells ∙ kernel.machines)
-    was.sound c.requires.ahead made led)
+    was.sound c.requires.ahead made led) in
+    (c.requires.own.0, playing)
 
 pub returns-clause-who : goal.returns-clause-who
 returns-clause-who c =

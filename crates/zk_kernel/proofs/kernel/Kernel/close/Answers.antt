@@ -23,19 +23,20 @@ use Rattle.zk_cells.specs.Lasting.{Closes}
 use Rattle.zk_cells.specs.Notes.{writes_at}
 use Rattle.zk_kernel.specs.Rests.{Left}
 use Rattle.zk_kernel.proofs.Leaving.{left-sound, many-players, numbered, stands-all, steps-all, noted-by, for-all, shared-all, whole-all, all-close, all-sound}
+use Rattle.zk_kernel.proofs.Ordered.{closed-any}
 use Rattle.zk_kernel.proofs.kernel.Kernel.close.Goals as goal
 
 pub empty_cells-requires-clause-all : goal.empty_cells-requires-clause-all
 empty_cells-requires-clause-all c =
-    stands-all c.args.self c.into_parts-cells.result.0 c.args.callers.items c.in_ok-all.all c.into_parts-cells.ensures.cells c.into_parts-cells.ensures.made c.requires.all c.in_ok-all.ensures.together
+    stands-all c.args.self c.into_parts-cells.result.0 c.put_in_order.new.callers.items c.in_ok-all.all c.into_parts-cells.ensures.cells c.into_parts-cells.ensures.made c.put_in_order.ensures.order c.in_ok-all.ensures.together
 
 pub empty_cells-requires-clause-steps : goal.empty_cells-requires-clause-steps
-empty_cells-requires-clause-steps c = steps-all c.args.self c.args.callers.items c.in_ok-all.all c.requires.all c.in_ok-all.ensures.together
+empty_cells-requires-clause-steps c = steps-all c.args.self c.put_in_order.new.callers.items c.in_ok-all.all c.put_in_order.ensures.order c.in_ok-all.ensures.together
 
 pub of-requires-clause-sound : goal.of-requires-clause-sound
 of-requires-clause-sound c =
     let k = c.args.self in
-    let callers = c.args.callers.items in
+    let callers = c.put_in_order.new.callers.items in
     let players = c.in_ok-all.players.items in
     let all = c.in_ok-all.all in
     let gathered = c.in_ok-all.ensures.together in
@@ -47,22 +48,22 @@ of-requires-clause-sound c =
     let cs = c.into_parts-cells.result.0 in
     let ws = players_of callers in
     let told : whos players ≡ ws = ap whos c.in_ok-all.ensures.players in
-    let many = many-players k callers players c.requires.all c.in_ok-all.ensures.players in
+    let many = many-players k callers players c.put_in_order.ensures.order c.in_ok-all.ensures.players in
     let long : length ws ≡ length players = ap length (sym told) ∙ length-map players (λ (a : PlayerPlace). a.who) in
     let played = subst (λ (ns : List Note). ArePlayed (writes_at ns) (all_found callers) k.cells.signals.items xs) gathered.notes
     (subst (λ (ks : Cells). ArePlayed (writes_at all.notes.items) (all_found callers) ks.signals.items xs) same (services.played ws (all_found callers) (shared-all k cs callers all same gathered))) in
     let legal = subst (λ (m : Machines). IsLegalShown m final) (ap cells_machines same ∙ made.machines) services.legal in
-    let short = subst (λ (n : ℕ). AreWithin final (room_of_a_pass * n)) long (services.short ws (whole-all k cs callers same made c.requires.all)) in
-    let by = subst (λ l. AllBy l final) (sym told) (services.mine ws (for-all k cs callers all same gathered) (noted-by k callers all c.requires.all gathered)) in
-    let sound = left-sound k.scenario final players made.valid many (numbered k callers players c.requires.all c.in_ok-all.ensures.players)
-    (all-sound k callers players final c.requires.all c.in_ok-all.ensures.players (all-close k callers all xs c.requires.all gathered played)) legal by refl refl short in
+    let short = subst (λ (n : ℕ). AreWithin final (room_of_a_pass * n)) long (services.short ws (whole-all k cs callers same made c.put_in_order.ensures.order)) in
+    let by = subst (λ l. AllBy l final) (sym told) (services.mine ws (for-all k cs callers all same gathered) (noted-by k callers all c.put_in_order.ensures.order gathered)) in
+    let sound = left-sound k.scenario final players made.valid many (numbered k callers players c.put_in_order.ensures.order c.in_ok-all.ensures.players)
+    (all-sound k callers players final c.put_in_order.ensures.order c.in_ok-all.ensures.players (all-close k callers all xs c.put_in_order.ensures.order gathered played)) legal by refl refl short in
     subst (λ (s : Content). IsSound s (world (plain_shown c.in_ok-services.services) players)) (sym c.into_parts-cells.ensures.scenario)
     (subst (λ (h : Shown). IsSound k.scenario (world h players)) (sym services.shown) sound)
 
 pub returns : goal.returns
 returns c =
     let k = c.args.self in
-    let callers = c.args.callers.items in
+    let callers = c.put_in_order.new.callers.items in
     let all = c.in_ok-all.all in
     let gathered = c.in_ok-all.ensures.together in
     let same = c.into_parts-cells.ensures.cells in
@@ -73,12 +74,11 @@ returns c =
     let played = subst (λ (ns : List Note). ArePlayed (writes_at ns) (all_found callers) k.cells.signals.items xs) gathered.notes
     (subst (λ (ks : Cells). ArePlayed (writes_at all.notes.items) (all_found callers) ks.signals.items xs) same (services.played (players_of callers) (all_found callers) (shared-all k cs callers all same gathered))) in
     record {
-      closed = record {
-        scenario = ap (λ (l : Left). l.scenario) c.of.ensures.rest ∙ c.into_parts-cells.ensures.scenario;
-        players = ap (λ (l : Left). l.world.players) c.of.ensures.rest ∙ c.in_ok-all.ensures.players;
-        sound = c.of.ensures.sound;
-        seen = subst (λ (h : Shown). All (λ x. Closes (place_of x).who.number (shown_to x) h) callers)
-            (sym services.shown ∙ ap (λ (l : Left). l.world.shown) (sym c.of.ensures.rest))
-            (all-close k callers all xs c.requires.all gathered played);
-      };
+      closed = closed-any k c.args.callers.items callers c.of.result c.put_in_order.ensures.order c.put_in_order.ensures.same c.put_in_order.ensures.count
+          (ap (λ (l : Left). l.scenario) c.of.ensures.rest ∙ c.into_parts-cells.ensures.scenario)
+          (ap (λ (l : Left). l.world.players) c.of.ensures.rest ∙ c.in_ok-all.ensures.players)
+          (subst (λ (h : Shown). All (λ x. Closes (place_of x).who.number (shown_to x) h) callers)
+          (sym services.shown ∙ ap (λ (l : Left). l.world.shown) (sym c.of.ensures.rest))
+          (all-close k callers all xs c.put_in_order.ensures.order gathered played))
+          c.of.ensures.sound;
     }

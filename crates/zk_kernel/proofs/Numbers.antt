@@ -12,7 +12,7 @@ use Rattle.zk_signal.proofs.Counts as stamped
 use Rattle.zk_signal.proofs.Ordering.{sorted-counts, counts-at}
 use Rattle.zk_pool.specs.Counts.{tally}
 use Rattle.zk_pool.proofs.Counts.{equal}
-use Rattle.zk_cores.specs.Seats.{numbers_from}
+use Rattle.zk_kernel.specs.Rests.{numbers_from}
 
 -- one where two numbers are equal
 equal-self : (n : ℕ) → equal n n ≡ 1
