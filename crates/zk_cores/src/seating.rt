@@ -37,11 +37,7 @@ fn callers_of(alloc: Global, seats: Vec<Seat>) -> Result<Vec<Caller>, NoMemory>
 }
 
 /// The callers in all these seats.
-pub fn unseat_all(
-    alloc: Global,
-    kernel: &Kernel,
-    seats: Vec<Seat>,
-) -> Result<Vec<Caller>, NoMemory>
+pub fn unseat_all(alloc: Global, kernel: &Kernel, seats: Vec<Seat>) -> Result<Vec<Caller>, NoMemory>
     requires suits { All (Suits seat_number seat_kernel IsSeated (Some kernel.now)) seats.items }
     requires once { (n : ℕ) → tally n (map seat_number seats.items) ≡ tally n (numbers_from 0 (length seats.items)) }
     requires many { length seats.items ≡ length (players kernel.now.scenario.decls) }

@@ -34,12 +34,14 @@ returns-clause-own g c =
     c.step-stepped.ensures.does c.step-stepped.ensures.unchanged in
     let served = (c.step-stepped.ensures.serves at.who).0 (subst (λ (cs : Cells). IsServed cs old at.who) (sym same) was.served) in
     let does = subst (λ (s : Content). IfOk c.step-stepped.result (λ stepped. StepOutcome false (cells_machines cells) s at made (desk_shown old) (desk_shown new) (desk_counts old) (desk_counts new) stepped))
-    c.scenario.ensures.scenario c.step-stepped.ensures.does in
-    (c.requires.own.0, record {
-      served = subst (λ (w : Who). IsServed k.cells new w) (sym who) (subst (λ (cs : Cells). IsServed cs new at.who) (c.step-stepped.ensures.home ∙ same) served);
-      sound = still-sound (cells_machines cells) k.scenario at made (desk_shown old) (desk_shown new) (desk_counts old) (desk_counts new) c.step-stepped.result
-          kernel.valid (ap cells_machines same ∙ kernel.machines) was.sound does c.step-stepped.ensures.unchanged c.step-stepped.ensures.err;
-    })
+    c.scenario.ensures.scenario c.step-stepped.ensures.does in (
+      c.requires.own.0,
+      record {
+        served = subst (λ (w : Who). IsServed k.cells new w) (sym who) (subst (λ (cs : Cells). IsServed cs new at.who) (c.step-stepped.ensures.home ∙ same) served);
+        sound = still-sound (cells_machines cells) k.scenario at made (desk_shown old) (desk_shown new) (desk_counts old) (desk_counts new) c.step-stepped.result
+            kernel.valid (ap cells_machines same ∙ kernel.machines) was.sound does c.step-stepped.ensures.unchanged c.step-stepped.ensures.err;
+      },
+    )
 
 pub returns-clause-does : goal.returns-clause-does
 returns-clause-does g c =
