@@ -37,10 +37,25 @@ fn a_look_shows_what_another_submitted(rt: HostRuntime) -> Result<(), Fail> {
         "no look goes back behind that"
     );
     cell.join(&mut first, pass);
-    let mut held = cell.enter(&rt, first);
+    let history = cell.close(first).into_history();
+    assert!(rt; history.len() == 1);
+    Ok(())
+}
+
+#[test]
+fn a_turn_reads_what_an_earlier_one_submitted(rt: HostRuntime) -> Result<(), Fail> {
+    let work = Work::new(rt.alloc(), 2, &[9], &[true])?;
+    let (cell, passes) = Cell::new(rt.alloc(), work, &[PLAYER, OTHER])?;
+    let (first, second) = two_callers(&cell, PLAYER, OTHER, passes);
+    let mut held = cell.enter(&rt, first.pass);
+    let answer = held.act(0, WorkOp::Submit(1, Some(0)));
+    let mut first = cell.leave(held);
+    assert!(rt; answer?.is_some());
+    let mut held = cell.enter(&rt, second.pass);
     let found = (held.at(), held.service().word(1), held.word(1));
-    let first = cell.leave(held);
+    let second = cell.leave(held);
     assert!(rt; found == (1, 4, 4));
+    cell.join(&mut first, second);
     let history = cell.close(first).into_history();
     assert!(rt; history.len() == 1);
     Ok(())
