@@ -10,6 +10,7 @@ use denote.Struct.Field as Field
 use denote.Param.Send.{shr_sync, IsSend, IsSync, recorded_send, recorded_sync, struct_send, struct_sync, sendable}
 use denote.Struct.Declared.{shape}
 use Rattle.std.proofs.Crossing.{crosses}
+use Rattle.std.proofs.MapsCrossing as maps
 use Rattle.zk_model_wait.specs.contracts.msgq.MsgqOp as msgq_op
 use Rattle.zk_model_wait.specs.contracts.msgq.MsgqReply as msgq_reply
 use Rattle.zk_model_wait.specs.contracts.msgq.MsgqStore as msgq_store
@@ -35,7 +36,7 @@ use Rattle.zk_bus.specs.contracts.channel.Channel as chan
 use Rattle.zk_subq.specs.contracts.observer.Observer as observer
 
 pub clock_send : IsSend clock.the_row
-clock_send = search (sendable, crosses) depth 60 fits 20000
+clock_send = search (maps.HashMap-send, sendable, crosses) depth 60 fits 20000
 
 pub table_send : IsSend table.the_row
 table_send = search (sendable, crosses) depth 60 fits 20000
