@@ -3,11 +3,16 @@ pub mod Firsts
 pub mod Fronts
 pub mod Handed
 pub mod Histories
+pub mod Leading
 pub mod Lists
 pub mod Order
+pub mod Risen
+pub mod SlotLists
+pub mod SlotsKept
+pub mod SlotWaits
 pub mod WaitDecisions
 pub mod WaitMoves
+pub mod WaitOrder
 pub mod WaitsHold
 pub mod WaitsKept
 pub mod WaitsOnce
-pub mod WaitOrder

@@ -15,6 +15,7 @@ pub mod Padded
 pub mod Padding
 pub mod Recording
 pub mod RecordedView
+pub mod Slots
 pub mod Touched
 pub mod Validators
 pub mod WaitLaws

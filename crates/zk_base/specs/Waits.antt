@@ -9,10 +9,11 @@ pub record Waits (M A : Type 0) : Type 0 where
   pub waiting : List (Waiter M)
   pub decided : List (Decision A)
 
--- what a contract sees of waits that are kept: the waits, and how many more fit without memory
+-- what a contract sees of waits that are kept: the waits, how many more fit without memory, and a number above all places so far
 pub record WaitView (M A : Type 0) : Type 0 where
   pub waits : Waits M A
   pub room : ℕ
+  pub next : ℕ
 
 -- nobody waits
 abbrev pub no_waits : {M A : Type 0} → Waits M A

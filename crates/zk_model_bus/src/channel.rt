@@ -104,6 +104,7 @@ pub struct ChanStore {
 }
 
 impl Model for ChanStore {
+    ghost use Rattle.std.specs.Prelude.{◌≤◌};
     ghost use Rattle.zk_model_bus.specs.Channel.{ChanView, IsCalled};
 
     ghost Value = { ChanView };
@@ -120,14 +121,17 @@ impl Model for ChanStore {
       room = s.waits.room;
     } };
 
-    ghost invariant = { λ s. IsCalled (record {
-      valid = s.valid;
-      entries = s.entries;
-      message = s.message;
-      observers = s.observers.items;
-      holder = s.holder;
-      waits = s.waits.waits;
-    }) };
+    ghost invariant = { λ s. record {
+      called : IsCalled (record {
+        valid = s.valid;
+        entries = s.entries;
+        message = s.message;
+        observers = s.observers.items;
+        holder = s.holder;
+        waits = s.waits.waits;
+      });
+      waited : s.waits.next ≤ s.entries;
+    } };
 }
 
 /// The state of a channel's machine alone, which contracts see as its definition has it.

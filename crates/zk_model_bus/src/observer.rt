@@ -58,6 +58,7 @@ pub struct ObsStore {
 }
 
 impl Model for ObsStore {
+    ghost use Rattle.std.specs.Prelude.{◌≤◌};
     ghost use Rattle.zk_model_bus.specs.Observer.{ObsView, IsListed, most_of, channels_of};
 
     ghost Value = { ObsView };
@@ -73,13 +74,16 @@ impl Model for ObsStore {
       room = s.takers.room;
     } };
 
-    ghost invariant = { λ s. IsListed (record {
-      capacity = most_of s.ring;
-      entries = s.entries;
-      enabled = s.enabled;
-      channels = channels_of s.ring;
-      takers = s.takers.waits;
-    }) };
+    ghost invariant = { λ s. record {
+      listed : IsListed (record {
+        capacity = most_of s.ring;
+        entries = s.entries;
+        enabled = s.enabled;
+        channels = channels_of s.ring;
+        takers = s.takers.waits;
+      });
+      taken : s.takers.next ≤ s.entries;
+    } };
 }
 
 /// The state of an observer's machine alone, which contracts see as its definition has it.

@@ -86,7 +86,7 @@ pub struct MsgqStore {
 }
 
 impl Model for MsgqStore {
-    ghost use Rattle.std.specs.Prelude.{min};
+    ghost use Rattle.std.specs.Prelude.{◌≤◌, min};
     ghost use Rattle.zk_model_wait.specs.Msgq.{MsgqView, IsWithin};
 
     ghost Value = { MsgqView };
@@ -103,14 +103,19 @@ impl Model for MsgqStore {
       room = min (min s.puts.room s.gets.room) s.pollers.room;
     } };
 
-    ghost invariant = { λ s. IsWithin (record {
-      most = s.ring.capacity;
-      entries = s.entries;
-      messages = s.ring.items;
-      puts = s.puts.waits;
-      gets = s.gets.waits;
-      pollers = s.pollers.waits;
-    }) };
+    ghost invariant = { λ s. record {
+      within : IsWithin (record {
+        most = s.ring.capacity;
+        entries = s.entries;
+        messages = s.ring.items;
+        puts = s.puts.waits;
+        gets = s.gets.waits;
+        pollers = s.pollers.waits;
+      });
+      sent : s.puts.next ≤ s.entries;
+      got : s.gets.next ≤ s.entries;
+      polled : s.pollers.next ≤ s.entries;
+    } };
 }
 
 /// The state of a message queue's machine alone, which contracts see as its definition has it.

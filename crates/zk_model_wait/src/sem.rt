@@ -70,7 +70,7 @@ pub struct SemStore {
 }
 
 impl Model for SemStore {
-    ghost use Rattle.std.specs.Prelude.{min};
+    ghost use Rattle.std.specs.Prelude.{◌≤◌, min};
     ghost use Rattle.zk_model_wait.specs.Sem.{SemView, IsCounted};
 
     ghost Value = { SemView };
@@ -86,13 +86,17 @@ impl Model for SemStore {
       room = min s.takers.room s.pollers.room;
     } };
 
-    ghost invariant = { λ s. IsCounted (record {
-      count = s.count;
-      limit = s.limit;
-      entries = s.entries;
-      takers = s.takers.waits;
-      pollers = s.pollers.waits;
-    }) };
+    ghost invariant = { λ s. record {
+      counted : IsCounted (record {
+        count = s.count;
+        limit = s.limit;
+        entries = s.entries;
+        takers = s.takers.waits;
+        pollers = s.pollers.waits;
+      });
+      taken : s.takers.next ≤ s.entries;
+      polled : s.pollers.next ≤ s.entries;
+    } };
 }
 
 /// The state of a semaphore's machine alone, which contracts see as its definition has it.

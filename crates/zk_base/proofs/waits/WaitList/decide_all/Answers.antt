@@ -1,0 +1,48 @@
+use Rattle.std.proofs.Common.{◌≡◌, ◌+◌, ◌<◌, ◌≤◌, ◌++◌, [], List, length, take, drop, map, sym, ap, subst, ◌∙◌, arith, rules}
+use Rattle.std.proofs.lemmas.List.{length-map}
+use Rattle.std.proofs.lemmas.List.Elements.{All-weaker}
+use Rattle.zk_base.specs.declared.slots.Slot.{Slot}
+use Rattle.zk_base.specs.Waits.{all_decided, open_waits}
+use Rattle.zk_base.specs.Waits.{WaitView}
+use Rattle.zk_base.specs.Slots.{decided_all, waits_in, IsKept}
+use Rattle.zk_base.proofs.SlotWaits.{waits-all}
+use Rattle.zk_base.proofs.SlotsKept.{take-front, kept-all, open-is}
+use Rattle.zk_base.proofs.waits.WaitList.decide_all.Goals as goal
+
+pub invariant_of-self : goal.invariant_of-self
+invariant_of-self g c =
+    let i = c.self.inside in
+    let f = decided_all (i.decisions + 1) c.args.answer in
+    let now : c.decide_each.new.slots ≡ map f i.slots.items = c.decide_each.ensures ∙ ap (map f) c.deref_mut.ensures.value in
+    let long : length c.decide_each.new.slots ≡ i.slots.len = search rules in
+    let items = take-front c.decide_each.new.slots (drop (length c.decide_each.new.slots) i.slots.items) i.slots.len long ∙ now in
+    subst (λ l. IsKept l c.clear.new.self.items 0 i.ended i.next (i.decisions + 1)) (sym items)
+    (subst (λ l. IsKept (map f i.slots.items) l 0 i.ended i.next (i.decisions + 1)) (sym c.clear.ensures.items)
+    (kept-all i.slots.items i.firsts.items i.waiting i.ended i.next i.decisions c.args.answer c.self.invariant (search (arith, rules))))
+
+pub returns-clause-waits : goal.returns-clause-waits
+returns-clause-waits g c =
+    let i = c.self.inside in
+    let f = decided_all (i.decisions + 1) c.args.answer in
+    let now : c.decide_each.new.slots ≡ map f i.slots.items = c.decide_each.ensures ∙ ap (map f) c.deref_mut.ensures.value in
+    let long : length c.decide_each.new.slots ≡ i.slots.len = search rules in
+    let items = take-front c.decide_each.new.slots (drop (length c.decide_each.new.slots) i.slots.items) i.slots.len long ∙ now in
+    ap waits_in items
+    ∙ waits-all (i.decisions + 1) c.args.answer i.slots.items
+    (All-weaker (λ (s : Slot g.row.M.Denot g.row.A.Denot). s.number ≤ i.decisions) (λ (s : Slot g.row.M.Denot g.row.A.Denot). s.number < i.decisions + 1)
+    (λ s h. omega arith) i.slots.items c.self.invariant.numbered)
+    ∙ ap (λ (v : WaitView g.row.M.Denot g.row.A.Denot). all_decided c.args.answer v.waits) c.self.view_is
+
+pub returns-clause-open : goal.returns-clause-open
+returns-clause-open g c =
+    let i = c.self.inside in
+    let f = decided_all (i.decisions + 1) c.args.answer in
+    let now : c.decide_each.new.slots ≡ map f i.slots.items = c.decide_each.ensures ∙ ap (map f) c.deref_mut.ensures.value in
+    let long : length c.decide_each.new.slots ≡ i.slots.len = search rules in
+    let items = take-front c.decide_each.new.slots (drop (length c.decide_each.new.slots) i.slots.items) i.slots.len long ∙ now in
+    let before = open-is i.slots.items i.firsts.items i.waiting i.ended i.next i.decisions c.self.invariant in
+    let after = open-is (map f i.slots.items) [] 0 i.ended i.next (i.decisions + 1)
+    (kept-all i.slots.items i.firsts.items i.waiting i.ended i.next i.decisions c.args.answer c.self.invariant (search (arith, rules))) in
+    let same = length-map i.slots.items f in
+    let view = ap (λ (v : WaitView g.row.M.Denot g.row.A.Denot). open_waits v.waits) c.self.view_is in
+    ap (λ l. open_waits (waits_in l)) items ∙ omega (arith, before, after, same, view)
