@@ -11,3 +11,4 @@ pub mod WaitsHold
 pub mod WaitsKept
 pub mod WaitsOnce
 pub mod WaitOrder
+pub mod WaitTests
