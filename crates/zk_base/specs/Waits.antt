@@ -46,7 +46,7 @@ goes_on ws player place = list_any (is_waiter player place) ws.waiting
 abbrev pub open_waits : {M A : Type 0} → Waits M A → ℕ
 open_waits ws = length ws.waiting + length ws.decided
 
--- The six moves of waits. The first is that they stay as they are.
+-- The seven moves of waits. The first is that they stay as they are.
 
 -- one more waits: behind all of its priority
 abbrev pub joined : {M A : Type 0} → Waits M A → Waiter M → Waits M A
