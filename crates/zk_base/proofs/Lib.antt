@@ -16,3 +16,4 @@ pub mod WaitOrder
 pub mod WaitsHold
 pub mod WaitsKept
 pub mod WaitsOnce
+pub mod WaitTests

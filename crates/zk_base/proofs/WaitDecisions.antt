@@ -2,7 +2,7 @@
 use Rattle.std.proofs.Common.{◌≡◌, ℕ, ◌+◌, ◌≤◌, ◌<◌, ◌⊎◌, inl, inr, All, Bool, true, false, eqb, ltb, ◌&&◌, ◌||◌, Option, Some, None, is_some, option_map, List, [], ◌∷◌, ◌++◌, map, length, refl, sym, ap, subst, ◌∙◌, append_assoc, arith}
 use Rattle.std.specs.List.{Contains, find, list_any, count_by}
 use Rattle.std.proofs.lemmas.Bool.Decides.{nat_tests}
-use Rattle.std.proofs.lemmas.List.Elements.{All-nil, All-cons, All-head, All-append, All-weaker, All-map, All-contains, All-contains_itself, Contains-append_left}
+use Rattle.std.proofs.lemmas.List.Elements.{All-nil, All-cons, All-head, All-tail, All-append, All-filter, All-weaker, All-map, All-contains, All-contains_itself, Contains-append_left}
 use Rattle.std.proofs.lemmas.Option.{same_Some}
 use Rattle.zk_base.specs.declared.ids.Who.{Who}
 use Rattle.zk_base.specs.declared.ids.Entry.{Entry}
@@ -10,11 +10,12 @@ use Rattle.zk_base.specs.declared.waits.Waiter.{Waiter}
 use Rattle.zk_base.specs.declared.waits.Decision.{Decision}
 use Rattle.zk_base.specs.History.{IsEntry}
 use Rattle.zk_base.specs.Legal.{Machine, state_after, Replays}
-use Rattle.zk_base.specs.Waits.{Waits, is_waiter, is_decision, decide, decision_of, goes_on, ended, decides_first, given_up, quit_answer}
-use Rattle.zk_base.specs.WaitLaws.{Decides, nobody, first, all, WaitKind, after_decision, after_entry, HasWaits, IsFirst, WasOpened, WasOpenedBy, waiting_at, decided_at, is_at, finishes, opened_at, decision, IsDecided, WaitsAt, IsDecidedBy, WasDecided, decisions, EndTellsItsDecision, QuitTellsItsDecision, EndedByItsOwnPlayer, MayEndOnceDecided, MayQuitUntilEnded, DecisionStays, AnswersItsOneDecision}
+use Rattle.zk_base.specs.Waits.{Waits, is_waiter, is_decision, decide, decision_of, goes_on, ended, decides_first, is_served_after, is_left, decisions_by, given_up, quit_answer}
+use Rattle.zk_base.specs.WaitLaws.{Decides, nobody, first, all, each, WaitKind, after_decision, after_entry, HasWaits, IsFirst, WasOpened, WasOpenedBy, waiting_at, decided_at, is_at, finishes, opened_at, decision, IsDecided, WaitsAt, IsDecidedBy, WasDecided, decisions, EndTellsItsDecision, QuitTellsItsDecision, EndedByItsOwnPlayer, MayEndOnceDecided, MayQuitUntilEnded, DecisionStays, AnswersItsOneDecision}
 use Rattle.zk_base.proofs.Firsts.{one_if, any-find, found-passes, found-there, found-only, stays-without, count-contains, count-none}
 use Rattle.zk_base.proofs.Histories.{state_after-append, state_after-snoc, entries-after, Replays-front, Replays-rest, by_entries}
-use Rattle.zk_base.proofs.WaitsHold.{All-without, AreOpened, each_wait_has_its_opening}
+use Rattle.zk_base.proofs.WaitTests.{IfDecided, All-decisions}
+use Rattle.zk_base.proofs.WaitsHold.{All-put_before, All-without, AreOpened, each_wait_has_its_opening}
 use Rattle.zk_base.proofs.WaitsOnce.{same-pair, eqb-same, decision-there, once-most, each_wait_once, entry-steps, opened-most, opened-last}
 
 both : (a b c d : ℕ) → a ≡ b → c ≡ d → (eqb a b && eqb c d) ≡ true
@@ -30,11 +31,12 @@ is-at : (place : ℕ) (o : Option ℕ) → is_at place o ≡ true → o ≡ Some
 is-at place None is = absurd (cc)
 is-at place (Some at) is = ap Some (same-number at place is)
 
--- whom an entry decides is answered this
-abbrev pub said : {R : Type 0} → Decides R → Option R
-said nobody = None
-said (first answer) = Some answer
-said (all answer) = Some answer
+-- whom an entry decides is answered this, by what it waits for
+abbrev pub said : {R M : Type 0} → Decides R M → M → Option R
+said nobody payload = None
+said (first answer) payload = Some answer
+said (all answer) payload = Some answer
+said (each test) payload = test payload
 
 module _ {M A : Type 0} where
   -- a decision that is there alone is the one that is found
@@ -89,13 +91,14 @@ module _ {M A : Type 0} where
   decided-some ws d held = count-contains (λ (c : Decision A). eqb c.place d.place) ws.decided d held (eqb-same d.place)
 
   -- a decision that wasn't there before is of one who waited, and says what the entry says
-  abbrev pub IsNew : Decides A → Waits M A → Decision A → Type 0
-  IsNew decides ws d = (w : Waiter M) × Contains ws.waiting w × (w.place ≡ d.place) × (said decides ≡ Some d.answer)
+  abbrev pub IsNew : Decides A M → Waits M A → Decision A → Type 0
+  IsNew decides ws d = (w : Waiter M) × Contains ws.waiting w × (w.place ≡ d.place)
+      × (said decides w.payload ≡ Some d.answer)
 
-  abbrev pub WereOrNew : Decides A → Waits M A → Decision A → Type 0
+  abbrev pub WereOrNew : Decides A M → Waits M A → Decision A → Type 0
   WereOrNew decides ws d = Contains ws.decided d ⊎ IsNew decides ws d
 
-  all-were : (decides : Decides A) (ws : Waits M A) → All (WereOrNew decides ws) ws.decided
+  all-were : (decides : Decides A M) (ws : Waits M A) → All (WereOrNew decides ws) ws.decided
   all-were decides ws = All-weaker (Contains ws.decided) (WereOrNew decides ws) (λ d held. inl held) ws.decided
       (All-contains_itself ws.decided)
 
@@ -110,7 +113,7 @@ module _ {M A : Type 0} where
       All-append P decided (decide answer w ∷ []) (all-were (first answer) before)
       (All-cons P (decide answer w) [] (inr (w, there, refl, refl)) (All-nil P))
 
-  decision-new : (decides : Decides A) (ws : Waits M A) → All (WereOrNew decides ws) (after_decision decides ws).decided
+  decision-new : (decides : Decides A M) (ws : Waits M A) → All (WereOrNew decides ws) (after_decision decides ws).decided
   decision-new nobody ws = all-were nobody ws
   decision-new (first answer) ws = first-new answer ws.waiting ws.decided
   decision-new (all answer) ws =
@@ -118,8 +121,13 @@ module _ {M A : Type 0} where
       All-append P ws.decided (map (decide answer) ws.waiting) (all-were (all answer) ws)
       (All-map P (decide answer) ws.waiting (All-weaker (Contains ws.waiting) (λ (w : Waiter M). P (decide answer w))
       (λ w held. inr (w, held, refl, refl)) ws.waiting (All-contains_itself ws.waiting)))
+  decision-new (each test) ws =
+      let P : Decision A → Type 0 = WereOrNew (each test) ws in
+      All-append P ws.decided (decisions_by test ws.waiting) (all-were (each test) ws)
+      (All-decisions test P ws.waiting (All-weaker (Contains ws.waiting) (IfDecided test P)
+      (λ w held answer is. inr (w, held, refl, is)) ws.waiting (All-contains_itself ws.waiting)))
 
-  pub entry-new : (ws : Waits M A) (place : ℕ) (who : Who) (decides : Decides A) (opens : Option M)
+  pub entry-new : (ws : Waits M A) (place : ℕ) (who : Who) (decides : Decides A M) (opens : Option M)
       (ends quits : Option ℕ) → All (WereOrNew decides ws) (after_entry ws place who decides opens ends quits).decided
   entry-new ws place who decides (Some payload) ends quits = all-were decides ws
   entry-new ws place who decides None (Some at) quits =
@@ -128,17 +136,49 @@ module _ {M A : Type 0} where
       All-without (WereOrNew decides ws) (is_decision who.number at) ws.decided (all-were decides ws)
   entry-new ws place who decides None None None = decision-new decides ws
 
+  -- who waits after an entry waited before it, or is opened by it
+  abbrev WaitedOrNew : ℕ → Waits M A → Waiter M → Type 0
+  WaitedOrNew place ws w = Contains ws.waiting w ⊎ (w.place ≡ place)
+
+  all-waited : (place : ℕ) (ws : Waits M A) → All (WaitedOrNew place ws) ws.waiting
+  all-waited place ws = All-weaker (Contains ws.waiting) (WaitedOrNew place ws) (λ w held. inl held) ws.waiting
+      (All-contains_itself ws.waiting)
+
+  first-waited : (P : Waiter M → Type 0) (answer : A) (waiting : List (Waiter M)) (decided : List (Decision A)) →
+      All P waiting → All P (decides_first answer waiting decided).waiting
+  first-waited P answer [] decided held = held
+  first-waited P answer (w ∷ ws) decided held = All-tail P w ws held
+
+  decision-waited : (place : ℕ) (decides : Decides A M) (ws : Waits M A) →
+      All (WaitedOrNew place ws) (after_decision decides ws).waiting
+  decision-waited place nobody ws = all-waited place ws
+  decision-waited place (first answer) ws =
+      first-waited (WaitedOrNew place ws) answer ws.waiting ws.decided (all-waited place ws)
+  decision-waited place (all answer) ws = All-nil (WaitedOrNew place ws)
+  decision-waited place (each test) ws = All-filter (is_left test) (WaitedOrNew place ws) ws.waiting (all-waited place ws)
+
+  entry-waited : (ws : Waits M A) (place : ℕ) (who : Who) (decides : Decides A M) (opens : Option M)
+      (ends quits : Option ℕ) → All (WaitedOrNew place ws) (after_entry ws place who decides opens ends quits).waiting
+  entry-waited ws place who decides (Some payload) ends quits =
+      let w : Waiter M = record { place = place; who = who; payload = payload } in
+      All-put_before (WaitedOrNew place ws) (is_served_after w) w ws.waiting (inr refl) (all-waited place ws)
+  entry-waited ws place who decides None (Some at) quits = all-waited place ws
+  entry-waited ws place who decides None None (Some at) =
+      All-without (WaitedOrNew place ws) (is_waiter who.number at) ws.waiting (all-waited place ws)
+  entry-waited ws place who decides None None None = decision-waited place decides ws
+
   -- a decision stays, or its wait ends
   first-stays : (answer : A) (waiting : List (Waiter M)) (decided : List (Decision A)) (d : Decision A) →
       Contains decided d → Contains (decides_first answer waiting decided).decided d
   first-stays answer [] decided d held = held
   first-stays answer (w ∷ ws) decided d held = Contains-append_left decided (decide answer w ∷ []) d held
 
-  decided-stays : (decides : Decides A) (ws : Waits M A) (d : Decision A) → Contains ws.decided d →
+  decided-stays : (decides : Decides A M) (ws : Waits M A) (d : Decision A) → Contains ws.decided d →
       Contains (after_decision decides ws).decided d
   decided-stays nobody ws d held = held
   decided-stays (first answer) ws d held = first-stays answer ws.waiting ws.decided d held
   decided-stays (all answer) ws d held = Contains-append_left ws.decided (map (decide answer) ws.waiting) d held
+  decided-stays (each test) ws d held = Contains-append_left ws.decided (decisions_by test ws.waiting) d held
 
   ended-stays : (ws : Waits M A) (player at : ℕ) (d : Decision A) → Contains ws.decided d →
       Contains (ended ws player at).decided d ⊎ (eqb at d.place ≡ true)
@@ -148,7 +188,7 @@ module _ {M A : Type 0} where
         inr (ap (λ (p : ℕ). eqb p d.place) (sym same.0) ∙ eqb-same d.place)
     by false isnt = inl (stays-without (is_decision player at) ws.decided d held isnt)
 
-  entry-stays : (ws : Waits M A) (place : ℕ) (who : Who) (decides : Decides A) (opens : Option M) (ends quits : Option ℕ)
+  entry-stays : (ws : Waits M A) (place : ℕ) (who : Who) (decides : Decides A M) (opens : Option M) (ends quits : Option ℕ)
       (d : Decision A) → Contains ws.decided d →
       Contains (after_entry ws place who decides opens ends quits).decided d
       ⊎ ((is_at d.place ends || is_at d.place quits) ≡ true)
@@ -340,6 +380,47 @@ module _ {S O R M : Type 0} (m : Machine S O R) (k : WaitKind S O R M) (has : Ha
       subst (λ (t : S). IsDecided k t d ⊎ (list_any (finishes k d.place) rest ≡ true)) (sym whole)
       (stays-all before rest d (Replays-rest m s front rest (subst (Replays m s) parts replays)) held)
 
+  -- who waits has waited since its opening
+  waited-from : (s : S) (es : List (Entry O R)) (w : Waiter M) → Replays m s es →
+      Contains (k.waits (state_after m s es)).waiting w → Contains (k.waits s).waiting w ⊎ (k.entries s ≤ w.place)
+  waited-from s [] w replays held = inl held
+  waited-from s (e ∷ es) w replays held = by (waited-from next es w replays.1 held) where
+    next : S
+    next = m.next s e.who e.op
+
+    here : Contains (k.waits next).waiting w → WaitedOrNew (k.entries s) (k.waits s) w
+    here still =
+        let ws = after_entry (k.waits s) (k.entries s) e.who (k.decides s e.op e.reply) (k.opens e.op e.reply)
+        (k.ends e.op) (k.quits e.op) in
+        All-contains (WaitedOrNew (k.entries s) (k.waits s)) ws.waiting w
+        (entry-waited (k.waits s) (k.entries s) e.who (k.decides s e.op e.reply) (k.opens e.op e.reply) (k.ends e.op)
+        (k.quits e.op))
+        (subst (λ (ws : Waits M R). Contains ws.waiting w) (has.moves s e.who e.op e.reply replays.0) still)
+
+    was : WaitedOrNew (k.entries s) (k.waits s) w → Contains (k.waits s).waiting w ⊎ (k.entries s ≤ w.place)
+    was (inl before) = inl before
+    was (inr opened) = inr (omega arith)
+
+    by : Contains (k.waits next).waiting w ⊎ (k.entries next ≤ w.place) →
+        Contains (k.waits s).waiting w ⊎ (k.entries s ≤ w.place)
+    by (inl still) = was (here still)
+    by (inr later) = let counted = has.counts s e.who e.op in inr (omega arith)
+
+  pub waited-since : (s : S) (h early later : List (Entry O R)) (w : Waiter M) → IsFirst k s → Replays m s h →
+      h ≡ early ++ later → Contains (k.waits (state_after m s h)).waiting w → w.place < length early →
+      Contains (k.waits (state_after m s early)).waiting w
+  waited-since s h early later w start replays parts held opened =
+      by (waited-from (state_after m s early) later w (Replays-rest m s early later (subst (Replays m s) parts replays))
+      (subst (λ (t : S). Contains (k.waits t).waiting w)
+      (ap (state_after m s) parts ∙ state_after-append m s early later) held)) where
+        by : Contains (k.waits (state_after m s early)).waiting w ⊎ (k.entries (state_after m s early) ≤ w.place) →
+            Contains (k.waits (state_after m s early)).waiting w
+        by (inl waited) = waited
+        by (inr new) =
+            let counted = entries-after m k.entries has.counts s early in
+            let none = start.new in
+            absurd (omega arith)
+
   -- the entry after this history decides it, or it was decided before
   decided-new : (s : S) (h : List (Entry O R)) (e : Entry O R) → m.reply_of (state_after m s h) e.who e.op ≡ Some e.reply →
       All (WereOrNew (k.decides (state_after m s h) e.op e.reply) (k.waits (state_after m s h)))
@@ -351,10 +432,10 @@ module _ {S O R M : Type 0} (m : Machine S O R) (k : WaitKind S O R M) (has : Ha
       (entry-new (k.waits now) (k.entries now) e.who (k.decides now e.op e.reply) (k.opens e.op e.reply) (k.ends e.op)
       (k.quits e.op))
 
-  -- an entry that decides says with what
+  -- an entry that decides a wait decides one that waited, and says with what
   pub decides-said : (s : S) (h : List (Entry O R)) → Replays m s h →
       (front : List (Entry O R)) (e : Entry O R) (d : Decision R) → IsEntry h front e → IsDecidedBy m k s front e d →
-      said (k.decides (state_after m s front) e.op e.reply) ≡ Some d.answer
+      IsNew (k.decides (state_after m s front) e.op e.reply) (k.waits (state_after m s front)) d
   decides-said s h replays front e d at decides =
       by (All-contains (WereOrNew (k.decides before e.op e.reply) (k.waits before))
       (k.waits (state_after m s (front ++ e ∷ []))).decided d (decided-new s front e (replied s h front e replays at))
@@ -362,9 +443,10 @@ module _ {S O R M : Type 0} (m : Machine S O R) (k : WaitKind S O R M) (has : Ha
         before : S
         before = state_after m s front
 
-        by : WereOrNew (k.decides before e.op e.reply) (k.waits before) d → said (k.decides before e.op e.reply) ≡ Some d.answer
+        by : WereOrNew (k.decides before e.op e.reply) (k.waits before) d →
+            IsNew (k.decides before e.op e.reply) (k.waits before) d
         by (inl held) = let some = decided-some (k.waits before) d held in let none = decides.before in absurd (omega arith)
-        by (inr new) = new.3
+        by (inr new) = new
 
   decisions-last : (s : S) (h : List (Entry O R)) (e : Entry O R) (place : ℕ) →
       decisions m k place s (h ++ e ∷ []) ≡ decisions m k place s h + one_if

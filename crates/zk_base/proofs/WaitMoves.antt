@@ -5,8 +5,9 @@ use Rattle.std.proofs.lemmas.List.{length-append, length-map}
 use Rattle.zk_base.specs.declared.waits.Waiter.{Waiter}
 use Rattle.zk_base.specs.declared.waits.Decision.{Decision}
 use Rattle.zk_base.specs.Lists.{put_before}
-use Rattle.zk_base.specs.Waits.{Waits, is_served_after, is_waiter, is_decision, decide, decision_of, goes_on, open_waits, joined, ended, quitted, decides_first, first_decided, all_decided, given_up, quit_answer}
+use Rattle.zk_base.specs.Waits.{Waits, is_served_after, is_waiter, is_decision, decide, decision_of, goes_on, open_waits, joined, ended, quitted, decides_first, first_decided, all_decided, each_decided, decisions_by, given_up, quit_answer}
 use Rattle.zk_base.proofs.Firsts.{any-find, length-without, length-less}
+use Rattle.zk_base.proofs.WaitTests.{length-tested}
 
 length-before-at : {A : Type 0} (x y : A) (ys rest : List A) (b : Bool) → length rest ≡ suc (length ys) →
     length (cond b (x ∷ y ∷ ys) (y ∷ rest)) ≡ suc (suc (length ys))
@@ -80,4 +81,10 @@ module _ {M A : Type 0} where
   open-all answer ws =
       let more = length-append ws.decided (map (decide answer) ws.waiting) in
       let same = length-map ws.waiting (decide {M = M} answer) in
+      omega arith
+
+  pub open-each : (test : M → Option A) (ws : Waits M A) → open_waits (each_decided test ws) ≡ open_waits ws
+  open-each test ws =
+      let more = length-append ws.decided (decisions_by test ws.waiting) in
+      let same = length-tested test ws.waiting in
       omega arith

@@ -1,18 +1,18 @@
 -- Who waits stands in the order in which they are served.
 use Rattle.std.proofs.Common.{◌≡◌, ℕ, ◌+◌, ◌<◌, ◌⊎◌, inl, inr, Bool, true, false, not, ltb, cond, ◌&&◌, ◌||◌, ℤ, Option, Some, None, List, [], ◌∷◌, All, refl, sym, ap, subst, ◌∙◌, arith}
-use Rattle.std.specs.List.{Contains}
+use Rattle.std.specs.List.{Contains, filter}
 use Rattle.std.specs.Prelude.{int_lt}
 use Rattle.std.proofs.lemmas.Bool.Decides.{nat_tests}
 use Rattle.std.proofs.lemmas.Int.{ints}
-use Rattle.std.proofs.lemmas.List.Elements.{All-nil, All-cons, All-head, All-tail, All-weaker, All-contains, All-contains_itself}
+use Rattle.std.proofs.lemmas.List.Elements.{All-nil, All-cons, All-head, All-tail, All-weaker, All-contains, All-contains_itself, All-filter, filter_passes}
 use Rattle.zk_base.specs.declared.ids.Who.{Who}
 use Rattle.zk_base.specs.declared.ids.Entry.{Entry}
 use Rattle.zk_base.specs.declared.waits.Waiter.{Waiter}
 use Rattle.zk_base.specs.declared.waits.Decision.{Decision}
 use Rattle.zk_base.specs.Legal.{Machine, state_after, Replays}
 use Rattle.zk_base.specs.Lists.{put_before, without_first}
-use Rattle.zk_base.specs.Waits.{Waits, is_served_after, is_waiter, decides_first}
-use Rattle.zk_base.specs.WaitLaws.{Decides, nobody, first, all, WaitKind, after_decision, after_entry, HasWaits, IsFirst, is_before, NoneOvertakes}
+use Rattle.zk_base.specs.Waits.{Waits, is_served_after, is_waiter, decides_first, is_left}
+use Rattle.zk_base.specs.WaitLaws.{Decides, nobody, first, all, each, passes_over, WaitKind, after_decision, after_entry, HasWaits, IsFirst, is_before, NoneOvertakes}
 use Rattle.zk_base.proofs.Histories.{state_after-snoc, Replays-front, Replays-rest}
 use Rattle.zk_base.proofs.WaitsHold.{All-put_before, All-without}
 
@@ -28,6 +28,10 @@ before-lower a b j k is = ap (λ (x : Bool). x || not (int_lt b a) && ltb j k) i
 
 before-longer : (a b : ℤ) (j k : ℕ) → int_lt b a ≡ false → j < k → (int_lt a b || not (int_lt b a) && ltb j k) ≡ true
 before-longer a b j k is less = grind (arith, ints, nat_tests)
+
+or-second : (a b : Bool) → b ≡ true → (a || b) ≡ true
+or-second true b is = refl
+or-second false b is = is
 
 module _ {M : Type 0} where
   -- each is served before those behind it
@@ -78,6 +82,13 @@ module _ {M : Type 0} where
     by true rest = order.1
     by false rest = (All-without (λ (v : Waiter M). is_before w v ≡ true) p ws order.0, rest)
 
+  filter-in-order : (p : Waiter M → Bool) (ws : List (Waiter M)) → InOrder ws → InOrder (filter p ws)
+  filter-in-order p [] order = tt
+  filter-in-order p (w ∷ ws) order = by (p w) (filter-in-order p ws order.1) where
+    by : (b : Bool) → InOrder (filter p ws) → InOrder (cond b (w ∷ filter p ws) (filter p ws))
+    by true rest = (All-filter p (λ (v : Waiter M). is_before w v ≡ true) ws order.0, rest)
+    by false rest = rest
+
   later : (n : ℕ) (ws : List (Waiter M)) → All (λ (w : Waiter M). w.place < n) ws → All (λ (w : Waiter M). w.place < n + 1) ws
   later n ws older = All-weaker (λ (w : Waiter M). w.place < n) (λ (w : Waiter M). w.place < n + 1)
       (λ w less. omega arith) ws older
@@ -110,13 +121,17 @@ module _ {S O R M : Type 0} (m : Machine S O R) (k : WaitKind S O R M) (has : Ha
   queued-first next answer (w ∷ ws) decided are =
       (are.0.1, later next ws (All-tail (λ (w : Waiter M). w.place < next) w ws are.1))
 
-  queued-decision : (next : ℕ) (decides : Decides R) (ws : Waits M R) → AreQueued next ws.waiting →
+  queued-decision : (next : ℕ) (decides : Decides R M) (ws : Waits M R) → AreQueued next ws.waiting →
       AreQueued (next + 1) (after_decision decides ws).waiting
   queued-decision next nobody ws are = (are.0, later next ws.waiting are.1)
   queued-decision next (first answer) ws are = queued-first next answer ws.waiting ws.decided are
   queued-decision next (all answer) ws are = (tt, All-nil (λ (w : Waiter M). w.place < next + 1))
+  queued-decision next (each test) ws are = (
+    filter-in-order (is_left test) ws.waiting are.0,
+    All-filter (is_left test) (λ (w : Waiter M). w.place < next + 1) ws.waiting (later next ws.waiting are.1),
+  )
 
-  queued-entry : (ws : Waits M R) (next : ℕ) (who : Who) (decides : Decides R) (opens : Option M) (ends quits : Option ℕ)
+  queued-entry : (ws : Waits M R) (next : ℕ) (who : Who) (decides : Decides R M) (opens : Option M) (ends quits : Option ℕ)
       → AreQueued next ws.waiting → AreQueued (next + 1) (after_entry ws next who decides opens ends quits).waiting
   queued-entry ws next who decides (Some payload) ends quits are =
       let new : Waiter M = record { place = next; who = who; payload = payload } in
@@ -158,17 +173,23 @@ module _ {S O R M : Type 0} (m : Machine S O R) (k : WaitKind S O R M) (has : Ha
   none-in : (w : Waiter M) → Contains [] w → ⊥
   none-in w held = All-contains (λ (x : Waiter M). ⊥) [] w (All-nil (λ (x : Waiter M). ⊥)) held
 
-  out-decided : (decides : Decides R) (ws : Waits M R) (w v : Waiter M) → InOrder ws.waiting → Contains ws.waiting w →
+  out-decided : (decides : Decides R M) (ws : Waits M R) (w v : Waiter M) → InOrder ws.waiting → Contains ws.waiting w →
       (Contains (after_decision decides ws).waiting w → ⊥) →
-      Contains (after_decision decides ws).waiting v → is_before w v ≡ true
+      Contains (after_decision decides ws).waiting v → (is_before w v || passes_over decides v.payload) ≡ true
   out-decided nobody ws w v order was out is = absurd (out was)
-  out-decided (first answer) ws w v order was out is = out-first answer ws.waiting ws.decided w v order was out is
+  out-decided (first answer) ws w v order was out is =
+      ap (λ (b : Bool). b || false) (out-first answer ws.waiting ws.decided w v order was out is)
   out-decided (all answer) ws w v order was out is = absurd (none-in v is)
+  out-decided (each test) ws w v order was out is =
+      or-second (is_before w v) (is_left test v)
+      (All-contains (λ (x : Waiter M). is_left test x ≡ true) (filter (is_left test) ws.waiting) v
+      (filter_passes (is_left test) ws.waiting) is)
 
-  out-entry : (ws : Waits M R) (next : ℕ) (who : Who) (decides : Decides R) (opens : Option M) (ends quits : Option ℕ)
+  out-entry : (ws : Waits M R) (next : ℕ) (who : Who) (decides : Decides R M) (opens : Option M) (ends quits : Option ℕ)
       (w v : Waiter M) → quits ≡ None → InOrder ws.waiting → Contains ws.waiting w →
       (Contains (after_entry ws next who decides opens ends quits).waiting w → ⊥) →
-      Contains (after_entry ws next who decides opens ends quits).waiting v → is_before w v ≡ true
+      Contains (after_entry ws next who decides opens ends quits).waiting v →
+      (is_before w v || passes_over decides v.payload) ≡ true
   out-entry ws next who decides (Some payload) ends quits w v none order was out is =
       let new : Waiter M = record { place = next; who = who; payload = payload } in
       absurd (out (still-there (is_served_after new) new w ws.waiting was))

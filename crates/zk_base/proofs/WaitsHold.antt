@@ -1,15 +1,18 @@
 -- The laws of waits, of every machine that has them.
 use Rattle.std.proofs.Common.{◌≡◌, ℕ, Bool, true, false, cond, Option, Some, None, List, [], ◌∷◌, ◌++◌, map, length, All, refl, sym, ap, subst, ◌∙◌, append_assoc, append-nil, arith}
+use Rattle.std.specs.List.{slice_get}
 use Rattle.std.proofs.lemmas.List.{length-append}
-use Rattle.std.proofs.lemmas.List.Elements.{All-nil, All-cons, All-head, All-tail, All-append, All-weaker}
+use Rattle.std.proofs.lemmas.List.Elements.{All-nil, All-cons, All-head, All-tail, All-append, All-weaker, All-filter}
+use Rattle.std.proofs.lemmas.Option.{same_Some}
 use Rattle.zk_base.specs.declared.ids.Who.{Who}
 use Rattle.zk_base.specs.declared.ids.Entry.{Entry}
 use Rattle.zk_base.specs.declared.waits.Waiter.{Waiter}
 use Rattle.zk_base.specs.declared.waits.Decision.{Decision}
 use Rattle.zk_base.specs.Legal.{Machine, state_after, Replays}
 use Rattle.zk_base.specs.Lists.{put_before, without_first}
-use Rattle.zk_base.specs.Waits.{Waits, is_served_after, is_waiter, is_decision, decide, decides_first}
-use Rattle.zk_base.specs.WaitLaws.{Decides, nobody, first, all, WaitKind, after_decision, after_entry, HasWaits, IsFirst, WasOpened, WasOpenedBy, EachWaitHasItsOpening}
+use Rattle.zk_base.specs.Waits.{Waits, is_served_after, is_waiter, is_decision, decide, decides_first, is_left, decisions_by}
+use Rattle.zk_base.specs.WaitLaws.{Decides, nobody, first, all, each, WaitKind, after_decision, after_entry, HasWaits, IsFirst, WasOpened, WasOpenedBy, EachWaitHasItsOpening}
+use Rattle.zk_base.proofs.WaitTests.{IfDecided, All-decisions}
 
 module _ {A : Type 0} (P : A → Type 0) (p : A → Bool) where
   All-either : (x : A) (xs ys zs : List A) (b : Bool) → All P ys → All P zs → All P (cond b ys zs)
@@ -28,6 +31,11 @@ module _ {A : Type 0} (P : A → Type 0) (p : A → Bool) where
   All-without (x ∷ xs) held =
       All-either x xs xs (x ∷ without_first p xs) (p x) (All-tail P x xs held)
       (All-cons P x (without_first p xs) (All-head P x xs held) (All-without xs (All-tail P x xs held)))
+
+-- one entry stands at a place
+entry-at : {A : Type 0} (front rest : List A) (e : A) → slice_get (front ++ e ∷ rest) (length front) ≡ Some e
+entry-at [] rest e = refl
+entry-at (f ∷ front) rest e = entry-at front rest e
 
 module _ {S O R M : Type 0} (m : Machine S O R) (k : WaitKind S O R M) (has : HasWaits m k) where
   -- what was opened stays opened in a longer history
@@ -48,6 +56,23 @@ module _ {S O R M : Type 0} (m : Machine S O R) (k : WaitKind S O R M) (has : Ha
 
   opened_by-longer : (h : List (Entry O R)) (l : Entry O R) (d : Decision R) → WasOpenedBy k h d → WasOpenedBy k (h ++ l ∷ []) d
   opened_by-longer h l d was = (was.0, was.1, was.2, opened-longer h l d.place was.0 was.1 was.3)
+
+  -- it was opened by the entry at its place
+  opened-at : (h : List (Entry O R)) (place : ℕ) (who : Who) (payload : M) → (was : WasOpened k h place who payload) →
+      slice_get h place ≡ Some was.e
+  opened-at h place who payload was =
+      ap (λ (l : List (Entry O R)). slice_get l place) was.at.whole
+      ∙ ap (slice_get (was.front ++ was.e ∷ was.at.rest)) (sym was.there) ∙ entry-at was.front was.at.rest was.e
+
+  -- so by one player, and for one thing
+  pub opened-same : (h : List (Entry O R)) (place : ℕ) (who other : Who) (payload another : M) →
+      WasOpened k h place who payload → WasOpened k h place other another → (who ≡ other) × (payload ≡ another)
+  opened-same h place who other payload another was also =
+      let same = same_Some was.e also.e (sym (opened-at h place who payload was) ∙ opened-at h place other another also) in
+      let opening = ap (λ (e : Entry O R). k.opens e.op e.reply) same in (
+        sym was.by ∙ ap (λ (e : Entry O R). e.who) same ∙ also.by,
+        same_Some payload another (sym was.opening ∙ opening ∙ also.opening),
+      )
 
   -- all of some waits were opened
   abbrev pub AreOpened : List (Entry O R) → Waits M R → Type 0
@@ -85,7 +110,7 @@ module _ {S O R M : Type 0} (m : Machine S O R) (k : WaitKind S O R M) (has : Ha
             (All-nil (WasOpenedBy k h))),
       )
 
-  decision-opened : (h : List (Entry O R)) (decides : Decides R) (ws : Waits M R) → AreOpened h ws →
+  decision-opened : (h : List (Entry O R)) (decides : Decides R M) (ws : Waits M R) → AreOpened h ws →
       AreOpened h (after_decision decides ws)
   decision-opened h nobody ws were = were
   decision-opened h (first answer) ws were = first-opened h answer ws.waiting ws.decided were.0 were.1
@@ -93,8 +118,15 @@ module _ {S O R M : Type 0} (m : Machine S O R) (k : WaitKind S O R M) (has : Ha
     All-nil (λ (w : Waiter M). WasOpened k h w.place w.who w.payload),
     All-append (WasOpenedBy k h) ws.decided (map (decide answer) ws.waiting) were.1 (all-opened h answer ws.waiting were.0),
   )
+  decision-opened h (each test) ws were =
+      let P : Waiter M → Type 0 = λ (w : Waiter M). WasOpened k h w.place w.who w.payload in (
+        All-filter (is_left test) P ws.waiting were.0,
+        All-append (WasOpenedBy k h) ws.decided (decisions_by test ws.waiting) were.1
+            (All-decisions test (WasOpenedBy k h) ws.waiting (All-weaker P (IfDecided test (WasOpenedBy k h))
+            (λ w was answer is. decided-opened h answer w was) ws.waiting were.0)),
+      )
 
-  entry-opened : (h : List (Entry O R)) (e : Entry O R) (ws : Waits M R) (place : ℕ) (decides : Decides R)
+  entry-opened : (h : List (Entry O R)) (e : Entry O R) (ws : Waits M R) (place : ℕ) (decides : Decides R M)
       (opens : Option M) (ends quits : Option ℕ) →
       length h ≡ place → k.opens e.op e.reply ≡ opens → AreOpened (h ++ e ∷ []) ws →
       AreOpened (h ++ e ∷ []) (after_entry ws place e.who decides opens ends quits)

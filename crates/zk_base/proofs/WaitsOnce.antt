@@ -8,10 +8,11 @@ use Rattle.zk_base.specs.declared.ids.Entry.{Entry}
 use Rattle.zk_base.specs.declared.waits.Waiter.{Waiter}
 use Rattle.zk_base.specs.declared.waits.Decision.{Decision}
 use Rattle.zk_base.specs.Legal.{Machine, state_after, Replays}
-use Rattle.zk_base.specs.Waits.{Waits, is_served_after, is_waiter, is_decision, decide, decision_of, goes_on, joined, ended, quitted, decides_first, given_up, quit_answer}
-use Rattle.zk_base.specs.WaitLaws.{Decides, nobody, first, all, WaitKind, after_decision, after_entry, HasWaits, IsFirst, waiting_at, decided_at, is_at, finishes, opened_at, EachWaitOnce, EachEndsOnce}
+use Rattle.zk_base.specs.Waits.{Waits, is_served_after, is_waiter, is_decision, decide, decision_of, goes_on, joined, ended, quitted, decides_first, decisions_by, given_up, quit_answer}
+use Rattle.zk_base.specs.WaitLaws.{Decides, nobody, first, all, each, WaitKind, after_decision, after_entry, HasWaits, IsFirst, waiting_at, decided_at, is_at, finishes, opened_at, EachWaitOnce, EachEndsOnce}
 use Rattle.zk_base.proofs.Histories.{state_after-snoc, entries-after, by_entries}
 use Rattle.zk_base.proofs.Firsts.{one_if, any-find, found-passes, without-lost, count-found, count-put_before}
+use Rattle.zk_base.proofs.WaitTests.{count-tested}
 
 none_some : {A : Type 0} (x : A) (o : Option A) → o ≡ Some x → o ≡ None → ⊥
 none_some x (Some y) some none = absurd (cc)
@@ -166,12 +167,16 @@ module _ {M A : Type 0} where
         sum_by-cons (λ (d : Decision A). one_if (eqb d.place place)) (decide answer w) (map (decide answer) ws),
       )
 
-  decision-steps : (decides : Decides A) (ws : Waits M A) (place : ℕ) → Steps ws (after_decision decides ws) place 0 0
+  decision-steps : (decides : Decides A M) (ws : Waits M A) (place : ℕ) → Steps ws (after_decision decides ws) place 0 0
   decision-steps nobody ws place = record { none_lost = refl; none_joins = omega arith }
   decision-steps (first answer) ws place = first-steps answer ws.waiting ws.decided place
   decision-steps (all answer) ws place =
       let both = sum_by-append (λ (d : Decision A). one_if (eqb d.place place)) ws.decided (map (decide answer) ws.waiting) in
       let same = decided-all answer ws.waiting place in
+      record { none_lost = omega arith; none_joins = omega arith }
+  decision-steps (each test) ws place =
+      let both = sum_by-append (λ (d : Decision A). one_if (eqb d.place place)) ws.decided (decisions_by test ws.waiting) in
+      let same = count-tested test place ws.waiting in
       record { none_lost = omega arith; none_joins = omega arith }
 
 one_both : (b : Bool) → one_if (b && true) ≡ one_if b

@@ -6,13 +6,15 @@ use Rattle.zk_base.specs.declared.waits.Waiter.{Waiter}
 use Rattle.zk_base.specs.declared.waits.Decision.{Decision}
 use Rattle.zk_base.specs.History.{IsEntry}
 use Rattle.zk_base.specs.Legal.{Machine, state_after}
-use Rattle.zk_base.specs.Waits.{Waits, no_waits, joined, ended, quitted, first_decided, all_decided, decision_of, quit_answer}
+use Rattle.zk_base.specs.Waits.{Waits, no_waits, joined, ended, quitted, first_decided, all_decided, each_decided, decision_of, quit_answer}
 
--- whom an entry that ends no wait decides: nobody, the first who waits, or all who wait
-pub data Decides (R : Type 0) : Type 0 where
-  nobody : Decides R
-  first : R → Decides R
-  all : R → Decides R
+-- whom an entry that ends no wait decides: nobody, the first who waits, all who wait, or each for whose payload a test has
+-- an answer, with that answer
+pub data Decides (R M : Type 0) : Type 0 where
+  nobody : Decides R M
+  first : R → Decides R M
+  all : R → Decides R M
+  each : (M → Option R) → Decides R M
 
 -- a list of waits of a machine: where it stands in the state, and what opens, ends and decides its waits
 pub record WaitKind (S O R M : Type 0) : Type 0 where
@@ -28,16 +30,17 @@ pub record WaitKind (S O R M : Type 0) : Type 0 where
   -- what giving up a wait that isn't decided answers
   pub gives_up : R
   -- whom an entry decides, and how
-  pub decides : S → O → R → Decides R
+  pub decides : S → O → R → Decides R M
 
 -- the waits after an entry that decides
-abbrev pub after_decision : {R M : Type 0} → Decides R → Waits M R → Waits M R
+abbrev pub after_decision : {R M : Type 0} → Decides R M → Waits M R → Waits M R
 after_decision nobody ws = ws
 after_decision (first answer) ws = first_decided answer ws
 after_decision (all answer) ws = all_decided answer ws
+after_decision (each test) ws = each_decided test ws
 
 -- the waits after an entry: one more, one less, or as it decides
-abbrev pub after_entry : {R M : Type 0} → Waits M R → ℕ → Who → Decides R → Option M →
+abbrev pub after_entry : {R M : Type 0} → Waits M R → ℕ → Who → Decides R M → Option M →
     Option ℕ → Option ℕ → Waits M R
 after_entry ws place who decides (Some payload) ends quits = joined ws (record { place = place; who = who; payload = payload })
 after_entry ws place who decides None (Some at) quits = ended ws who.number at
@@ -209,13 +212,20 @@ abbrev pub is_before : {M : Type 0} → Waiter M → Waiter M → Bool
 is_before w v =
     int_lt w.who.prio v.who.prio || not (int_lt v.who.prio w.who.prio) && nat_lt w.place v.place
 
--- where an entry that gives nobody up takes a waiter out, so decides its wait, whoever still waits comes behind it
+-- the entry decides by a test that has no answer for this payload
+abbrev pub passes_over : {R M : Type 0} → Decides R M → M → Bool
+passes_over (each test) payload = not (is_some (test payload))
+passes_over decides payload = false
+
+-- where an entry that gives nobody up takes a waiter out, so decides its wait, whoever still waits comes behind it, or the
+-- entry passes over it
 abbrev pub NoneOvertakes : {S O R M : Type 0} → Machine S O R → WaitKind S O R M → S → List (Entry O R) → Type 0
 NoneOvertakes {O = O} {R = R} {M = M} m k s h = (front : List (Entry O R)) (e : Entry O R) (w v : Waiter M) →
     IsEntry h front e → k.quits e.op ≡ None →
     Contains (k.waits (state_after m s front)).waiting w →
     (Contains (k.waits (state_after m s (front ++ e ∷ []))).waiting w → ⊥) →
-    Contains (k.waits (state_after m s (front ++ e ∷ []))).waiting v → is_before w v ≡ true
+    Contains (k.waits (state_after m s (front ++ e ∷ []))).waiting v →
+    (is_before w v || passes_over (k.decides (state_after m s front) e.op e.reply) v.payload) ≡ true
 
 -- the laws of waits
 pub record KeepsWaits {S O R M : Type 0} (m : Machine S O R) (k : WaitKind S O R M) (s : S) (h : List (Entry O R)) : Type 0 where

@@ -1,4 +1,4 @@
-use Rattle.std.specs.Prelude.{ℕ, ◌+◌, Bool, true, false, ◌==◌, ◌&&◌, int_lt, Option, Some, None, option_map, List, [], ◌∷◌, ◌++◌, length, map}
+use Rattle.std.specs.Prelude.{ℕ, ◌+◌, Bool, true, false, ◌==◌, ◌&&◌, int_lt, Option, Some, None, is_some, option_map, not, List, [], ◌∷◌, ◌++◌, length, map, filter}
 use Rattle.std.specs.List.{find, list_any}
 use Rattle.zk_base.specs.declared.waits.Waiter.{Waiter}
 use Rattle.zk_base.specs.declared.waits.Decision.{Decision}
@@ -47,7 +47,7 @@ goes_on ws player place = list_any (is_waiter player place) ws.waiting
 abbrev pub open_waits : {M A : Type 0} → Waits M A → ℕ
 open_waits ws = length ws.waiting + length ws.decided
 
--- The six moves of waits. The first is that they stay as they are.
+-- The seven moves of waits. The first is that they stay as they are.
 
 -- one more waits: behind all of its priority
 abbrev pub joined : {M A : Type 0} → Waits M A → Waiter M → Waits M A
@@ -76,6 +76,31 @@ first_decided answer ws = decides_first answer ws.waiting ws.decided
 -- all who wait are decided alike
 abbrev pub all_decided : {M A : Type 0} → A → Waits M A → Waits M A
 all_decided answer ws = record { waiting = []; decided = ws.decided ++ map (decide answer) ws.waiting }
+
+-- what a test says of one who waits: the answer that decides the wait, if it has one
+abbrev pub says : {M A : Type 0} → (M → Option A) → Waiter M → Option A
+says test w = test w.payload
+
+-- the test has no answer for whom it leaves waiting
+abbrev pub is_left : {M A : Type 0} → (M → Option A) → Waiter M → Bool
+is_left test w = not (is_some (says test w))
+
+-- the decision of a wait, where there is an answer
+abbrev pub decided_by : {M A : Type 0} → Option A → Waiter M → List (Decision A)
+decided_by None w = []
+decided_by (Some answer) w = decide answer w ∷ []
+
+-- the decisions of those for whom the test has an answer, in their order
+abbrev pub decisions_by : {M A : Type 0} → (M → Option A) → List (Waiter M) → List (Decision A)
+decisions_by test [] = []
+decisions_by test (w ∷ ws) = decided_by (says test w) w ++ decisions_by test ws
+
+-- each for whom the test has an answer is decided with it, in their order. The others go on
+abbrev pub each_decided : {M A : Type 0} → (M → Option A) → Waits M A → Waits M A
+each_decided test ws = record {
+  waiting = filter (is_left test) ws.waiting;
+  decided = ws.decided ++ decisions_by test ws.waiting;
+}
 
 -- what the end of a wait that is given up answers, where that is possible: its decision, else that it was given up
 abbrev pub given_up : {A : Type 0} → A → Bool → Option A → Option A

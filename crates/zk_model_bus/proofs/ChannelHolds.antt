@@ -1,5 +1,5 @@
 -- Who holds a channel, along a history.
-use Rattle.std.proofs.Common.{◌≡◌, ℕ, ◌⊎◌, inl, inr, All, Bool, true, false, not, eqb, cond, ◌&&◌, ◌||◌, Option, Some, None, option_map, List, [], ◌∷◌, ◌++◌, length, slice_get, refl, sym, ap, subst, ◌∙◌, append_assoc, append-nil, arith}
+use Rattle.std.proofs.Common.{◌≡◌, ℕ, ◌⊎◌, inl, inr, All, Bool, true, false, not, eqb, cond, ◌&&◌, ◌||◌, Option, Some, None, option_map, List, [], ◌∷◌, ◌++◌, slice_get, refl, sym, ap, subst, ◌∙◌, append_assoc, append-nil, arith}
 use Rattle.std.specs.Cmp.{first_so, second_so}
 use Rattle.std.specs.List.{Contains, list_any}
 use Rattle.std.specs.Option.{option_map_or}
@@ -18,7 +18,7 @@ use Rattle.zk_base.specs.WaitLaws.{IsFirst, WasOpened, decided_at, IsDecidedBy}
 use Rattle.zk_base.proofs.Histories.{state_after-snoc, Replays-front, Replays-rest}
 use Rattle.zk_base.proofs.Lists.{All-at}
 use Rattle.zk_base.proofs.WaitDecisions.{said, decided-some, waits-apart, decides-said}
-use Rattle.zk_base.proofs.WaitsHold.{each_wait_has_its_opening}
+use Rattle.zk_base.proofs.WaitsHold.{opened-same, each_wait_has_its_opening}
 use Rattle.zk_base.proofs.WaitsOnce.{eqb-same}
 use Rattle.zk_model_bus.specs.declared.channel.Holder.{Holder}
 use Rattle.zk_model_bus.specs.declared.channel.Manner.{Manner}
@@ -105,11 +105,11 @@ freed-hands c who ops.Finish Done told is = finish-hands c (has_claimed c who) t
 freed-hands c who op reply told is = absurd (cc)
 
 -- an entry that decides frees
-decides-frees : (c : Channel) (op : ChanOp) (reply answer : ChanReply) → said (call_decides c op reply) ≡ Some answer →
+decides-frees : (c : Channel) (op : ChanOp) (reply answer : ChanReply) (for : Manner) → said (call_decides c op reply) for ≡ Some answer →
     (frees op reply ≡ true) × (answer ≡ Got)
-decides-frees c ops.Free Done answer is = (refl, sym (same_Some Got answer is))
-decides-frees c ops.Finish Done answer is = (refl, sym (same_Some Got answer is))
-decides-frees c op reply answer is = absurd (cc)
+decides-frees c ops.Free Done answer for is = (refl, sym (same_Some Got answer is))
+decides-frees c ops.Finish Done answer for is = (refl, sym (same_Some Got answer is))
+decides-frees c op reply answer for is = absurd (cc)
 
 -- a decision that is new is of the first who waits
 new-first : (before : Waits Manner ChanReply) (waiting : List (Waiter Manner)) (d : Decision ChanReply) →
@@ -129,28 +129,6 @@ new-first before (w ∷ ws) d none is = by (All-contains P (before.decided ++ de
   by : P d → (v : Waiter Manner) × (slice_get (w ∷ ws) 0 ≡ Some v) × (decide Got v ≡ d)
   by (inl was) = absurd (let some = decided-some before d was in omega arith)
   by (inr same) = (w, refl, same)
-
--- one entry stands at a place
-entry-at : {A : Type 0} (front rest : List A) (e : A) → slice_get (front ++ e ∷ rest) (length front) ≡ Some e
-entry-at [] rest e = refl
-entry-at (f ∷ front) rest e = entry-at front rest e
-
-opened-at : (h : ChanHistory) (place : ℕ) (who : Who) (manner : Manner) (was : WasOpened callers h place who manner) →
-    slice_get h place ≡ Some was.e
-opened-at h place who manner was =
-    ap (λ (l : ChanHistory). slice_get l place) was.at.whole
-    ∙ ap (slice_get (was.front ++ was.e ∷ was.at.rest)) (sym was.there) ∙ entry-at was.front was.at.rest was.e
-
-opened-same : (h : ChanHistory) (place : ℕ) (who other : Who) (manner another : Manner) →
-    WasOpened callers h place who manner → WasOpened callers h place other another →
-    (who ≡ other) × (manner ≡ another)
-opened-same h place who other manner another was also =
-    let same = same_Some was.e also.e (sym (opened-at h place who manner was) ∙ opened-at h place other another also) in
-    let opening = ap (λ (e : Entry ChanOp ChanReply). callers.opens e.op e.reply) same in (
-      sym was.by ∙ ap (λ (e : Entry ChanOp ChanReply). e.who) same
-          ∙ also.by,
-      same_Some manner another (sym was.opening ∙ opening ∙ also.opening),
-    )
 
 module _ (first : Channel) (start : IsFirst callers first) where
   -- the first who waits has opened the wait
@@ -190,7 +168,8 @@ module _ (first : Channel) (start : IsFirst callers first) where
       let w = found.0 in
       let own = subst (λ (p : ℕ). WasOpened callers front p w.who w.payload)
       (ap (λ (d : Decision ChanReply). d.place) found.2) (first-opened front w replays found.1) in
-      let same = opened-same front handed.d.place w.who handed.who w.payload holder.manner own handed.opened in
+      let same = opened-same chan_machine callers has_callers front handed.d.place w.who handed.who w.payload holder.manner
+      own handed.opened in
       ap (λ (d : Channel). d.holder) (freed-hands c e.who e.op e.reply told is) ∙ ap (option_map held_by) found.1
       ∙ ap Some (same-holder w.who.number holder.player w.payload holder.manner (ap (λ (v : Who). v.number) same.0
       ∙ handed.own) same.1)
@@ -200,8 +179,8 @@ module _ (first : Channel) (start : IsFirst callers first) where
       Replays chan_machine first h → IsEntry h front e →
       IsDecidedBy chan_machine callers first front e d → (is_freed e ≡ true) × (d.answer ≡ Got)
   handed-frees h front e d replays at decides =
-      decides-frees (chan_after_all first front) e.op e.reply d.answer
-      (decides-said chan_machine callers has_callers first h replays front e d at decides)
+      let whose = decides-said chan_machine callers has_callers first h replays front e d at decides in
+      decides-frees (chan_after_all first front) e.op e.reply d.answer whose.0.payload whose.3
 
   replays-front : (h front : ChanHistory) (e : Entry ChanOp ChanReply) → Replays chan_machine first h →
       IsEntry h front e → Replays chan_machine first front

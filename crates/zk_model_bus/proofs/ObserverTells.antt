@@ -152,18 +152,18 @@ take_waits_only_at_none capacity h legal front e waits at op =
 
 -- What decides a wait.
 
-decided-so : (o : Observer) (op own : ObsOp) (reply said_so answer : ObsReply) → op ≡ own → reply ≡ said_so →
-    said (take_decides o own said_so) ≡ Some answer →
+decided-so : (o : Observer) (op own : ObsOp) (reply said_so answer : ObsReply) (for : Unit {0}) → op ≡ own → reply ≡ said_so →
+    said (take_decides o own said_so) for ≡ Some answer →
     (channel : ℕ) × (op ≡ ops.Visit channel) × (reply ≡ Pushed) × (answer ≡ Channel channel)
-decided-so o op (ops.Visit channel) reply Pushed answer same told is =
+decided-so o op (ops.Visit channel) reply Pushed answer for same told is =
     (channel, same, told, sym (same_Some (Channel channel) answer is))
-decided-so o op own reply said_so answer same told is = absurd (cc)
+decided-so o op own reply said_so answer for same told is = absurd (cc)
 
 pub taker_decided_by_a_push : OfEachObs TakerDecidedByAPush
 taker_decided_by_a_push capacity h legal front e d at decides =
     let new = new_obs capacity in
-    decided-so (obs_after_all new front) e.op e.op e.reply e.reply d.answer refl refl
-    (decides-said obs_machine takers has_takers new h legal.0 front e d at decides)
+    let whose = decides-said obs_machine takers has_takers new h legal.0 front e d at decides in
+    decided-so (obs_after_all new front) e.op e.op e.reply e.reply d.answer whose.0.payload refl refl whose.3
 
 -- What is possible.
 

@@ -26,7 +26,7 @@ call_quits (ops.ClaimQuit place) = Some place
 call_quits op = None
 
 -- a free, or a finish that is done, decides the first who waits: it holds the channel
-abbrev pub call_decides : Channel → ChanOp → ChanReply → Decides ChanReply
+abbrev pub call_decides : Channel → ChanOp → ChanReply → Decides ChanReply Manner
 call_decides c ops.Free Done = first Got
 call_decides c ops.Finish Done = first Got
 call_decides c op reply = nobody

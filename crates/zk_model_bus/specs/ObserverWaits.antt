@@ -22,7 +22,7 @@ take_quits (ops.TakeQuit place) = Some place
 take_quits op = None
 
 -- a visit that is pushed decides the first who waits: it takes the channel
-abbrev pub take_decides : Observer → ObsOp → ObsReply → Decides ObsReply
+abbrev pub take_decides : Observer → ObsOp → ObsReply → Decides ObsReply Unit
 take_decides o (ops.Visit channel) Pushed = first (Channel channel)
 take_decides o op reply = nobody
 

@@ -564,36 +564,38 @@ looks_tell_the_ring most h legal = record {
 
 -- What decides a wait.
 
-taken-so : (messages : List (List ℕ)) (answer : MsgqReply) → said (get_decides messages) ≡ Some answer → answer ≡ Done
-taken-so (m ∷ ms) answer is = sym (same_Some Done answer is)
-taken-so [] answer is = absurd (cc)
+taken-so : (messages : List (List ℕ)) (answer : MsgqReply) (for : List ℕ) → said (get_decides messages) for ≡ Some answer →
+    answer ≡ Done
+taken-so (m ∷ ms) answer for is = sym (same_Some Done answer is)
+taken-so [] answer for is = absurd (cc)
 
-put-decided : (q : Msgq) (op own : MsgqOp) (reply answer : MsgqReply) → op ≡ own → said (put_decides q own reply) ≡ Some answer →
+put-decided : (q : Msgq) (op own : MsgqOp) (reply answer : MsgqReply) (for : List ℕ) → op ≡ own →
+    said (put_decides q own reply) for ≡ Some answer →
     ((waits : Bool) × (op ≡ ops.Get waits) × (answer ≡ Done)) ⊎ ((op ≡ ops.Purge) × (answer ≡ NoMsg))
-put-decided q op (ops.Get waits) reply answer same is = inl (waits, same, taken-so q.messages answer is)
-put-decided q op ops.Purge reply answer same is = inr (same, sym (same_Some NoMsg answer is))
-put-decided q op own reply answer same is = absurd (cc)
+put-decided q op (ops.Get waits) reply answer for same is = inl (waits, same, taken-so q.messages answer for is)
+put-decided q op ops.Purge reply answer for same is = inr (same, sym (same_Some NoMsg answer is))
+put-decided q op own reply answer for same is = absurd (cc)
 
 pub put_decided_by_get_or_purge : OfEachMsgq PutDecidedByGetOrPurge
 put_decided_by_get_or_purge most h legal front e d at decides =
     let new = new_msgq most in
-    put-decided (msgq_after_all new front) e.op e.op e.reply d.answer refl
-    (decides-said msgq_machine putters has_putters new h legal.0 front e d at decides)
+    let whose = decides-said msgq_machine putters has_putters new h legal.0 front e d at decides in
+    put-decided (msgq_after_all new front) e.op e.op e.reply d.answer whose.0.payload refl whose.3
 
-get-decided : (q : Msgq) (op own : MsgqOp) (reply said_so answer : MsgqReply) → op ≡ own → reply ≡ said_so →
-    said (take_decides q own said_so) ≡ Some answer →
+get-decided : (q : Msgq) (op own : MsgqOp) (reply said_so answer : MsgqReply) (for : Unit {0}) → op ≡ own →
+    reply ≡ said_so → said (take_decides q own said_so) for ≡ Some answer →
     (message : List ℕ) × (message_put op ≡ Some message) × (reply ≡ Done) × (answer ≡ Bytes message)
-get-decided q op (ops.Put message waits) reply Done answer same told is =
+get-decided q op (ops.Put message waits) reply Done answer for same told is =
     (message, ap message_put same, told, sym (same_Some (Bytes message) answer is))
-get-decided q op (ops.PutFront message) reply Done answer same told is =
+get-decided q op (ops.PutFront message) reply Done answer for same told is =
     (message, ap message_put same, told, sym (same_Some (Bytes message) answer is))
-get-decided q op own reply said_so answer same told is = absurd (cc)
+get-decided q op own reply said_so answer for same told is = absurd (cc)
 
 pub get_decided_by_its_put : OfEachMsgq GetDecidedByItsPut
 get_decided_by_its_put most h legal front e d at decides =
     let new = new_msgq most in
-    get-decided (msgq_after_all new front) e.op e.op e.reply e.reply d.answer refl refl
-    (decides-said msgq_machine getters has_getters new h legal.0 front e d at decides)
+    let whose = decides-said msgq_machine getters has_getters new h legal.0 front e d at decides in
+    get-decided (msgq_after_all new front) e.op e.op e.reply e.reply d.answer whose.0.payload refl refl whose.3
 
 pub may_always : (q : Msgq) (h : MsgqHistory) → MayAlways q h
 may_always q h who (ops.Put message waits) never = (_, refl)

@@ -142,26 +142,26 @@ poll_arm_answers most h legal front e waits at op =
     (same_Some (poll_reply q.messages waits) e.reply
     (replied (new_msgq most) h front e (ops.PollArm waits) legal.0 at op)) (poll-told q.messages waits)
 
-notified-so : (waiting : List (Waiter Unit)) (reply answer : MsgqReply) →
-    said (put_notifies waiting reply) ≡ Some answer → (waiting ≡ []) × (reply ≡ Done) × (answer ≡ Noted)
-notified-so [] Done answer is = (refl, refl, sym (same_Some Noted answer is))
-notified-so waiting reply answer is = absurd (cc)
+notified-so : (waiting : List (Waiter Unit)) (reply answer : MsgqReply) (for : Unit {0}) →
+    said (put_notifies waiting reply) for ≡ Some answer → (waiting ≡ []) × (reply ≡ Done) × (answer ≡ Noted)
+notified-so [] Done answer for is = (refl, refl, sym (same_Some Noted answer is))
+notified-so waiting reply answer for is = absurd (cc)
 
-noted-so : (q : Msgq) (e : Entry MsgqOp MsgqReply) (own : MsgqOp) (answer : MsgqReply) → e.op ≡ own →
-    said (poll_decides q own e.reply) ≡ Some answer → IsChance q e × (answer ≡ Noted)
-noted-so q e (ops.Put message waits) answer same is =
-    let so = notified-so q.gets.waiting e.reply answer is in
+noted-so : (q : Msgq) (e : Entry MsgqOp MsgqReply) (own : MsgqOp) (answer : MsgqReply) (for : Unit {0}) → e.op ≡ own →
+    said (poll_decides q own e.reply) for ≡ Some answer → IsChance q e × (answer ≡ Noted)
+noted-so q e (ops.Put message waits) answer for same is =
+    let so = notified-so q.gets.waiting e.reply answer for is in
     (record { put = (message, ap message_put same); done = so.1; nobody = so.0 }, so.2)
-noted-so q e (ops.PutFront message) answer same is =
-    let so = notified-so q.gets.waiting e.reply answer is in
+noted-so q e (ops.PutFront message) answer for same is =
+    let so = notified-so q.gets.waiting e.reply answer for is in
     (record { put = (message, ap message_put same); done = so.1; nobody = so.0 }, so.2)
-noted-so q e own answer same is = absurd (cc)
+noted-so q e own answer for same is = absurd (cc)
 
 pub noted_at_a_chance : OfEachMsgq NotedAtAChance
 noted_at_a_chance most h legal front e d at decides =
     let new = new_msgq most in
-    noted-so (msgq_after_all new front) e e.op d.answer refl
-    (decides-said msgq_machine pollers has_pollers new h legal.0 front e d at decides)
+    let whose = decides-said msgq_machine pollers has_pollers new h legal.0 front e d at decides in
+    noted-so (msgq_after_all new front) e e.op d.answer whose.0.payload refl whose.3
 
 put-notes : (waiting : List (Waiter Unit)) (ws : Waits Unit MsgqReply) (reply : MsgqReply) → waiting ≡ [] → reply ≡ Done →
     NotesOne ws (after_decision (put_notifies waiting reply) ws)

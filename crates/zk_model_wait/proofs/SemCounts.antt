@@ -327,17 +327,17 @@ reset_ends_every_wait s h front e at op =
     let after = state_after-snoc sem_machine s front e ∙ ap (sem_next (sem_after_all s front) e.who) op in
     (ap (λ (t : Sem). t.count) after, ap (λ (t : Sem). t.takers.waiting) after)
 
-decided-so : (s : Sem) (op own : SemOp) (reply answer : SemReply) → op ≡ own →
-    said (take_decides s own reply) ≡ Some answer → ((op ≡ ops.Give) × (answer ≡ Got)) ⊎ ((op ≡ ops.Reset) × (answer ≡ Again))
-decided-so s op ops.Give reply answer same is = inl (same, sym (same_Some Got answer is))
-decided-so s op ops.Reset reply answer same is = inr (same, sym (same_Some Again answer is))
-decided-so s op own reply answer same is = absurd (cc)
+decided-so : (s : Sem) (op own : SemOp) (reply answer : SemReply) (for : Unit {0}) → op ≡ own →
+    said (take_decides s own reply) for ≡ Some answer → ((op ≡ ops.Give) × (answer ≡ Got)) ⊎ ((op ≡ ops.Reset) × (answer ≡ Again))
+decided-so s op ops.Give reply answer for same is = inl (same, sym (same_Some Got answer is))
+decided-so s op ops.Reset reply answer for same is = inr (same, sym (same_Some Again answer is))
+decided-so s op own reply answer for same is = absurd (cc)
 
 pub decided_by_give_or_reset : OfEachSem DecidedByGiveOrReset
 decided_by_give_or_reset initial limit low h legal front e d at decides =
     let s = new_sem initial limit in
-    decided-so (sem_after_all s front) e.op e.op e.reply d.answer refl
-    (decides-said sem_machine takers has_takers s h legal.0 front e d at decides)
+    let whose = decides-said sem_machine takers has_takers s h legal.0 front e d at decides in
+    decided-so (sem_after_all s front) e.op e.op e.reply d.answer whose.0.payload refl whose.3
 
 pub may_always : (s : Sem) (h : SemHistory) → MayAlways s h
 may_always s h who (ops.Take waits) never = (_, refl)

@@ -106,23 +106,24 @@ poll_arm_answers initial limit low h legal front e waits at op =
     subst (PollIsTold s.count waits) (same_Some (poll_reply s.count waits) e.reply (ap (sem_reply s e.who) (sym op)
     ∙ replied (new_sem initial limit) h front e legal.0 at)) (poll-told s.count waits)
 
-notified-so : (waiting : List (Waiter Unit)) (answer : SemReply) → said (give_notifies waiting) ≡ Some answer →
+notified-so : (waiting : List (Waiter Unit)) (answer : SemReply) (for : Unit {0}) →
+    said (give_notifies waiting) for ≡ Some answer →
     (waiting ≡ []) × (answer ≡ Noted)
-notified-so [] answer is = (refl, sym (same_Some Noted answer is))
-notified-so (w ∷ ws) answer is = absurd (cc)
+notified-so [] answer for is = (refl, sym (same_Some Noted answer is))
+notified-so (w ∷ ws) answer for is = absurd (cc)
 
-noted-so : (s : Sem) (e : Entry SemOp SemReply) (own : SemOp) (reply answer : SemReply) → e.op ≡ own →
-    said (poll_decides s own reply) ≡ Some answer → IsChance s e × (answer ≡ Noted)
-noted-so s e ops.Give reply answer same is =
-    let so = notified-so s.takers.waiting answer is in
+noted-so : (s : Sem) (e : Entry SemOp SemReply) (own : SemOp) (reply answer : SemReply) (for : Unit {0}) → e.op ≡ own →
+    said (poll_decides s own reply) for ≡ Some answer → IsChance s e × (answer ≡ Noted)
+noted-so s e ops.Give reply answer for same is =
+    let so = notified-so s.takers.waiting answer for is in
     (record { give = same; nobody = so.0 }, so.1)
-noted-so s e own reply answer same is = absurd (cc)
+noted-so s e own reply answer for same is = absurd (cc)
 
 pub noted_at_a_chance : OfEachSem NotedAtAChance
 noted_at_a_chance initial limit low h legal front e d at decides =
     let s = new_sem initial limit in
-    noted-so (sem_after_all s front) e e.op e.reply d.answer refl
-    (decides-said sem_machine pollers has_pollers s h legal.0 front e d at decides)
+    let whose = decides-said sem_machine pollers has_pollers s h legal.0 front e d at decides in
+    noted-so (sem_after_all s front) e e.op e.reply d.answer whose.0.payload refl whose.3
 
 given-notes : (waiting : List (Waiter Unit)) (s : Sem) → waiting ≡ [] → NotesOne s.pollers (give_to waiting s).pollers
 given-notes [] s none = one-noted Noted s.pollers.waiting s.pollers.decided

@@ -23,11 +23,11 @@ put_quits (ops.PutQuit place) = Some place
 put_quits op = None
 
 -- a get that takes a message decides the first put that waits, and a purge decides all
-abbrev pub get_decides : List (List ℕ) → Decides MsgqReply
+abbrev pub get_decides : List (List ℕ) → Decides MsgqReply (List ℕ)
 get_decides [] = nobody
 get_decides (m ∷ ms) = first Done
 
-abbrev pub put_decides : Msgq → MsgqOp → MsgqReply → Decides MsgqReply
+abbrev pub put_decides : Msgq → MsgqOp → MsgqReply → Decides MsgqReply (List ℕ)
 put_decides q (ops.Get waits) reply = get_decides q.messages
 put_decides q ops.Purge reply = all NoMsg
 put_decides q op reply = nobody
@@ -60,7 +60,7 @@ get_quits (ops.GetQuit place) = Some place
 get_quits op = None
 
 -- a put decides the first get that waits, and so does a put in front: it gets the message
-abbrev pub take_decides : Msgq → MsgqOp → MsgqReply → Decides MsgqReply
+abbrev pub take_decides : Msgq → MsgqOp → MsgqReply → Decides MsgqReply Unit
 take_decides q (ops.Put message waits) Done = first (Bytes message)
 take_decides q (ops.PutFront message) Done = first (Bytes message)
 take_decides q op reply = nobody
@@ -93,11 +93,11 @@ poll_quits (ops.PollQuit place) = Some place
 poll_quits op = None
 
 -- a put that is done, in front or not, notifies the first who polls, where no get waits
-abbrev pub put_notifies : List (Waiter Unit) → MsgqReply → Decides MsgqReply
+abbrev pub put_notifies : List (Waiter Unit) → MsgqReply → Decides MsgqReply Unit
 put_notifies [] Done = first Noted
 put_notifies waiting reply = nobody
 
-abbrev pub poll_decides : Msgq → MsgqOp → MsgqReply → Decides MsgqReply
+abbrev pub poll_decides : Msgq → MsgqOp → MsgqReply → Decides MsgqReply Unit
 poll_decides q (ops.Put message waits) reply = put_notifies q.gets.waiting reply
 poll_decides q (ops.PutFront message) reply = put_notifies q.gets.waiting reply
 poll_decides q op reply = nobody

@@ -23,7 +23,7 @@ take_quits (ops.TakeQuit place) = Some place
 take_quits op = None
 
 -- a give decides the first who waits, and a reset decides all
-abbrev pub take_decides : Sem → SemOp → SemReply → Decides SemReply
+abbrev pub take_decides : Sem → SemOp → SemReply → Decides SemReply Unit
 take_decides s ops.Give reply = first Got
 take_decides s ops.Reset reply = all Again
 take_decides s op reply = nobody
@@ -56,11 +56,11 @@ poll_quits (ops.PollQuit place) = Some place
 poll_quits op = None
 
 -- a give notifies the first who polls, where nobody waits
-abbrev pub give_notifies : List (Waiter Unit) → Decides SemReply
+abbrev pub give_notifies : List (Waiter Unit) → Decides SemReply Unit
 give_notifies [] = first Noted
 give_notifies (w ∷ ws) = nobody
 
-abbrev pub poll_decides : Sem → SemOp → SemReply → Decides SemReply
+abbrev pub poll_decides : Sem → SemOp → SemReply → Decides SemReply Unit
 poll_decides s ops.Give reply = give_notifies s.takers.waiting
 poll_decides s op reply = nobody
 
