@@ -1,18 +1,20 @@
 -- What is kept at first stands for the table before the first entry.
-use Rattle.std.proofs.Common.{◌≡◌, ℕ, zero, suc, ◌+◌, ◌<◌, ◌≤◌, Bool, true, false, eqb, ltb, ◌&&◌, ◌||◌, ◌⊎◌, inl, inr, All, Option, Some, None, List, [], ◌∷◌, ◌++◌, length, slice_get, refl, sym, ap, subst, ◌∙◌, arith}
+use Rattle.std.proofs.Common.{◌≡◌, ℕ, zero, suc, ◌+◌, ◌<◌, ◌≤◌, Bool, true, false, eqb, ltb, ◌&&◌, ◌||◌, ◌⊎◌, inl, inr, Option, Some, None, List, [], ◌∷◌, ◌++◌, length, slice_get, refl, sym, ap, subst, ◌∙◌, arith}
 use Rattle.std.specs.List.{list_any}
 use Rattle.std.proofs.Math.Bool.{or-false, and-false}
 use Rattle.std.specs.Option.{option_map_or}
 use Rattle.std.proofs.lemmas.Bool.{eqb-true, eqb-false, ne_eqb, eq-eqb, ltb-true, ltb-false, lt-ltb, le-ltb}
-use Rattle.std.proofs.lemmas.List.Elements.{All-head, All-tail}
+use Rattle.std.proofs.lemmas.List.Folds.{list_any-append}
 use Rattle.std.proofs.lemmas.Option.{same_Some, slice_get_within, slice_get_past}
 use Rattle.zk_base.specs.declared.kinds.Kind.TheVariants as kinds
 use Rattle.zk_base.specs.Limits.{most_players}
+use Rattle.zk_model_bus.specs.declared.table.TableOp.TheVariants as ops
 use Rattle.zk_model_bus.specs.Table.{Setup, new_table, IsSetup, is_thread, is_declared, begins_ready}
 use Rattle.zk_objects.specs.declared.object.Object.{Object}
-use Rattle.zk_objects.specs.First.{declares_user, IsFirstThread, AreFirst}
-use Rattle.zk_objects.specs.Kept.{IsObject, IsStateOf}
+use Rattle.zk_objects.specs.First.{allowing, declares_user, IsFirstThread, AreFirst}
+use Rattle.zk_objects.specs.Kept.{IsObject, IsStateOf, IsChanged, AreChanged}
 use Rattle.zk_objects.specs.Players.{Marked, has}
+use Rattle.zk_objects.proofs.Standing.{past-none}
 
 declares-past : (threads : List (ℕ × Bool)) (player : ℕ) → length threads ≤ player → declares_user threads player ≡ false
 declares-past threads player past = ap (λ (d : Option (ℕ × Bool)). option_map_or (λ (t : ℕ × Bool). t.1) d false) (slice_get_past threads player past)
@@ -76,31 +78,77 @@ thread-found setup object player is (inl found) kind =
             let own : d.0 ≡ object = ap (λ (t : ℕ × Bool). t.0) (sym (same_Some found.0 d eq)) ∙ found.2 in
             absurd (let both = sym other ∙ eq-eqb d.0 object own in cc)))
 
--- no permission is declared above them
-beyond-declared : (few : ℕ) (allowed : List (ℕ × ℕ)) (many : ℕ) (player object : ℕ) → few ≤ most_players → All (λ (a : ℕ × ℕ). (a.0 < few) × (a.1 < many)) allowed → most_players ≤ player →
-    list_any (λ (a : ℕ × ℕ). eqb a.0 player && eqb a.1 object) allowed ≡ false
-beyond-declared few [] many player object small all big = refl
-beyond-declared few (a ∷ rest) many player object small all big =
-    let P : ℕ × ℕ → Type 0 = λ b. (b.0 < few) × (b.1 < many) in
-    let here = (All-head P a rest all).0 in
-    let no = ne_eqb a.0 player (λ same. omega arith) in
-    ap (λ (b : Bool). (b && eqb a.1 object) || list_any (λ (c : ℕ × ℕ). eqb c.0 player && eqb c.1 object) rest) no
-    ∙ beyond-declared few rest many player object small (All-tail P a rest all) big
-
--- one object at first
-pub first-object : (setup : Setup) (object : ℕ) (x : Object) → IsSetup setup → slice_get setup.kinds object ≡ Some x.kind →
-    ((player : ℕ) → has x.granted player ≡ (ltb player most_players && is_declared setup player object)) → x.public ≡ false → slice_get setup.ready object ≡ Some x.ready →
-    IsFirstThread setup.threads object x.player → IsObject (new_table setup) object x
-first-object setup object x is kind granted public ready thread = record {
+-- one object before any permission is given
+pub first-object : (setup : Setup) (object : ℕ) (x : Object) → IsSetup setup → slice_get setup.kinds object ≡ Some x.kind → ((player : ℕ) → has x.granted player ≡ false) → x.public ≡ false →
+    slice_get setup.ready object ≡ Some x.ready → IsFirstThread setup.threads object x.player → IsObject (new_table (allowing [] setup)) object x
+first-object setup object x is kind none public ready thread = record {
   kind = kind;
-  granted = λ player.
-      granted player
-      ∙ within-limit (is_declared setup player object) player (beyond-declared (length setup.threads) setup.allowed (length setup.kinds) player object is.few is.allowed);
+  granted = none;
   public = public;
   ready = ap (λ (r : Option Bool). option_map_or (λ (b : Bool). b) r false) (sym ready) ∙ sym (or-false (begins_ready setup object));
   small = λ is-thread. (thread-found setup object x.player is thread (kind ∙ ap Some is-thread)).0;
   thread = λ is-thread p. (thread-found setup object x.player is thread (kind ∙ ap Some is-thread)).1 p;
 }
+
+-- one permission more is declared
+one-allowed : (setup : Setup) (before : List (ℕ × ℕ)) (a : ℕ × ℕ) (player object : ℕ) →
+    is_declared (allowing (before ++ a ∷ []) setup) player object ≡ (is_declared (allowing before setup) player object || (eqb a.0 player && eqb a.1 object))
+one-allowed setup before a player object =
+    let test : ℕ × ℕ → Bool = λ b. eqb b.0 player && eqb b.1 object in
+    list_any-append test before (a ∷ []) ∙ ap (λ (b : Bool). list_any test before || b) (or-false (test a))
+
+-- the object that it names, once it is given, and any other
+given-object : (setup : Setup) (before : List (ℕ × ℕ)) (a : ℕ × ℕ) (object : ℕ) (x y : Object) → a.0 < most_players → eqb a.1 object ≡ true →
+    IsObject (new_table (allowing before setup)) object x → IsChanged a.0 (ops.Grant 0 a.1) x y → IsObject (new_table (allowing (before ++ a ∷ []) setup)) object y
+given-object setup before a object x y small own is made = record {
+  kind = is.kind ∙ ap Some (sym made.kind);
+  granted = λ player.
+      made.granted player
+      ∙ ap (λ (b : Bool). b || (eqb a.0 player && ltb a.0 most_players)) (is.granted player)
+      ∙ ap (λ (b : Bool). is_declared (allowing before setup) player object || (eqb a.0 player && b)) (lt-ltb a.0 most_players small ∙ sym own)
+      ∙ sym (one-allowed setup before a player object);
+  public = made.public ∙ or-false x.public ∙ is.public;
+  ready = made.ready ∙ or-false x.ready ∙ is.ready;
+  small = λ thread. subst (λ (n : ℕ). n < most_players) (sym made.player) (is.small (sym made.kind ∙ thread));
+  thread = λ thread player. is.thread (sym made.kind ∙ thread) player ∙ ap (λ (n : ℕ). eqb n player) (sym made.player);
+}
+
+other-object : (setup : Setup) (before : List (ℕ × ℕ)) (a : ℕ × ℕ) (object : ℕ) (x : Object) → eqb a.1 object ≡ false →
+    IsObject (new_table (allowing before setup)) object x → IsObject (new_table (allowing (before ++ a ∷ []) setup)) object x
+other-object setup before a object x miss is = record {
+  kind = is.kind;
+  granted = λ player.
+      let was = is_declared (allowing before setup) player object in
+      is.granted player ∙ sym (or-false was) ∙ ap (λ (b : Bool). was || b) (sym (and-false (eqb a.0 player)) ∙ ap (λ (b : Bool). eqb a.0 player && b) (sym miss))
+      ∙ sym (one-allowed setup before a player object);
+  public = is.public;
+  ready = is.ready;
+  small = is.small;
+  thread = is.thread;
+}
+
+-- all objects, once it is given
+pub allowed-more : (setup : Setup) (before : List (ℕ × ℕ)) (a : ℕ × ℕ) (xs ys : List Object) → a.0 < most_players → AreFirst (allowing before setup) xs →
+    AreChanged a.0 (ops.Grant 0 a.1) xs ys → AreFirst (allowing (before ++ a ∷ []) setup) ys
+allowed-more setup before a xs ys small first made = record { long = made.long ∙ first.long; each = each } where
+  after : Setup
+  after = allowing (before ++ a ∷ []) setup
+
+  own : (object : ℕ) (y : Object) → eqb a.1 object ≡ true → slice_get ys object ≡ Some y → (kept : Option Object) → slice_get xs object ≡ kept → IsObject (new_table after) object y
+  own object y is has None none =
+      let past = past-none xs object none in
+      let within = slice_get_within ys object y has in
+      let long = made.long in
+      absurd (omega arith)
+  own object y is has (Some x) there = given-object setup before a object x y small is (first.each object x there) (made.own object x y (ap Some (eqb-true a.1 object is)) there has)
+
+  each : (object : ℕ) (y : Object) → slice_get ys object ≡ Some y → IsObject (new_table after) object y
+  each object y has = by (eqb a.1 object) refl where
+    by : (b : Bool) → eqb a.1 object ≡ b → IsObject (new_table after) object y
+    by true is = own object y is has (slice_get xs object) refl
+    by false miss =
+        let same = made.others object (λ named. eqb-false a.1 object miss (same_Some a.1 object named)) in
+        other-object setup before a object y miss (first.each object y (sym same ∙ has))
 
 -- one object more behind the others
 last-object : (xs : List Object) (y x : Object) (i : ℕ) → slice_get (xs ++ y ∷ []) i ≡ Some x → (slice_get xs i ≡ Some x) ⊎ ((i ≡ length xs) × (y ≡ x))

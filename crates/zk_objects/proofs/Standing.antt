@@ -54,7 +54,7 @@ dead-next : (t : Table) (who : Who) (op : TableOp) (player : ℕ) →
     is_dead (table_next t who op) player ≡ (is_dead t player || (eqb who.number player && is_oops (answer t who.number op)))
 dead-next t who op player = any-snoc (λ (e : TableEntry). eqb e.player player && is_oops e.reply) t.entries (entry_of t who op)
 
-past-none : (xs : List Object) (i : ℕ) → slice_get xs i ≡ None → length xs ≤ i
+pub past-none : (xs : List Object) (i : ℕ) → slice_get xs i ≡ None → length xs ≤ i
 past-none [] i none = omega arith
 past-none (x ∷ xs) zero none = absurd (cc)
 past-none (x ∷ xs) (suc i) none = let rest = past-none xs i none in omega arith

@@ -15,6 +15,10 @@ IsFirstThread threads object player =
     ((declared : ℕ × Bool) × (slice_get threads player ≡ Some declared) × (declared.0 ≡ object))
     ⊎ ((other : ℕ) (declared : ℕ × Bool) → slice_get threads other ≡ Some declared → declared.0 ≡ object → ⊥)
 
+-- the same declarations with other permissions
+abbrev pub allowing : List (ℕ × ℕ) → Setup → Setup
+allowing allowed setup = record setup { allowed = allowed }
+
 -- what is kept of the objects at first
 pub record AreFirst (setup : Setup) (objects : List Object) : Type 0 where
   pub long : length objects ≡ length setup.kinds

@@ -1,6 +1,7 @@
-ghost use Rattle.std.specs.Prelude.{◌≡◌, Some, slice_get};
+ghost use Rattle.std.specs.Prelude.{◌≡◌, ℕ, Some, slice_get};
 ghost use Rattle.std.specs.Option.{option_map_or};
 ghost use Rattle.zk_base.specs.Limits.{most_players};
+ghost use Rattle.zk_model_bus.specs.declared.table.TableOp.TheVariants.{Grant};
 ghost use Rattle.zk_objects.specs.Kept.{object_reply, checked, init_reply, answered, target_of, object_of, IsChanged, AreChanged};
 
 use crate::player_set::PlayerSet;
@@ -114,6 +115,16 @@ fn change_object(object: &mut Object, target: u32, op: &TableOp)
         TableOp::Public(_) => object.public = true,
         TableOp::Init(_) => object.ready = true,
         TableOp::Check(_, _) | TableOp::EnterUser => {}
+    }
+}
+
+/// Gives a player permission on an object, as a grant to its thread does.
+pub fn grant(objects: &mut Vec<Object>, player: u32, object: u32)
+    ensures { (thread : ℕ) → AreChanged player (Grant thread object) objects.old.items objects.new.items }
+{
+    let at = object as usize;
+    if at < objects.len() {
+        objects[at].granted.insert(player);
     }
 }
 

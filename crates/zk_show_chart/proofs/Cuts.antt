@@ -1,12 +1,12 @@
--- A text that is cut at its first line feed.
+-- A text that is cut at its first line feed, or at its first space.
 use Rattle.std.proofs.Common.{◌≡◌, ℕ, ◌+◌, ◌-◌, ◌≤◌, ◌==◌, nat_lt, Bool, true, false, cond, Option, Some, None, is_some, List, [], length, take, drop, position, true≢false, take_all, refl, sym, ap, ◌∙◌, arith}
 use Rattle.std.specs.List.{position_or_len}
 use Rattle.std.specs.Option.{unwrap_or}
 use Rattle.std.proofs.Math.ListN.{drop_of_length-le}
 use Rattle.std.proofs.lemmas.Bool.{ltb-false}
 use Rattle.std.proofs.lemmas.List.{length-drop}
-use Rattle.zk_words.specs.Bytes.{line_feed}
-use Rattle.zk_show_chart.specs.Lines.{before_feed, behind_feed}
+use Rattle.zk_words.specs.Bytes.{line_feed, space}
+use Rattle.zk_show_chart.specs.Lines.{before_feed, behind_feed, before_space}
 
 cut_at : (text : List ℕ) (end at : ℕ) (within : Bool) → Some end ≡ cond within (Some at) None →
     (take end text ≡ take at text) × (take (length text - (end + 1)) (drop (end + 1) text) ≡ drop (at + 1) text)
@@ -39,3 +39,14 @@ unfolding before_feed behind_feed
 cut_none text is =
     let at = position_or_len (λ b. b == line_feed) text in
     whole_at text at (nat_lt at (length text)) refl is
+
+-- the same of its first space
+pub word_some : (text : List ℕ) (end : ℕ) → Some end ≡ position (λ b. b == space) text → take end text ≡ before_space text
+word_some text end is =
+    let at = position_or_len (λ b. b == space) text in
+    (cut_at text end at (nat_lt at (length text)) is).0
+
+pub word_none : (text : List ℕ) → ◌≡◌ {A = Option ℕ} None (position (λ b. b == space) text) → text ≡ before_space text
+word_none text is =
+    let at = position_or_len (λ b. b == space) text in
+    (whole_at text at (nat_lt at (length text)) refl is).0

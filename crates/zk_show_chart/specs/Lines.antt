@@ -1,7 +1,7 @@
 use Rattle.std.specs.Prelude.{ℕ, ◌+◌, ◌-◌, ◌^◌, min, ◌==◌, zero, suc, Bool, false, Option, Some, None, List, [], ◌∷◌, take, drop, map, codes, if◌then◌else◌}
 use Rattle.std.specs.List.{before_first, after_first}
 use Rattle.std.specs.Str.{bytes_eq}
-use Rattle.zk_words.specs.Bytes.{line_feed}
+use Rattle.zk_words.specs.Bytes.{line_feed, space}
 use Rattle.zk_trace.specs.declared.stood.Stood.{Stood}
 use Rattle.zk_show_order.specs.Services.{service_of}
 use Rattle.zk_show_chart.specs.declared.lines.Line.{Line}
@@ -54,9 +54,13 @@ abbrev pub places_behind : Place → List Stood → List Place
 places_behind p [] = []
 places_behind p (step ∷ steps) = let here = next_place p (service_of step.spot) in here ∷ places_behind here steps
 
--- the name of a service, by the head of its section
+-- what stands before the first space of a text: all of it, where there is none
+abbrev pub before_space : List ℕ → List ℕ
+before_space text = before_first (λ b. b == space) text
+
+-- the name of a service, by the head of its section: it ends where the numbers of a newer format begin
 unfoldable pub name_in : List ℕ → List ℕ
-name_in head = if bytes_eq (take 8 head) (codes "service ") then drop 8 head else head
+name_in head = if bytes_eq (take 8 head) (codes "service ") then before_space (drop 8 head) else head
 
 -- what is said of the line at a place: its number in the whole input, the name of its service, and what it is
 abbrev pub said_at : List ℕ → ℕ → Place → ℕ × List ℕ × List ℕ

@@ -1,7 +1,6 @@
 ghost use Rattle.std.specs.Prelude.{◌≡◌, ℕ, ◌+◌, ◌==◌, List, length, map, position, IfOk};
-ghost use Rattle.zk_words.specs.Bytes.{line_feed};
 ghost use Rattle.zk_show_order.specs.Services.{service_of};
-ghost use Rattle.zk_show_chart.specs.Lines.{Place, before_feed, behind_feed, name_in, front, next_place, said_at, line_said, lines_said};
+ghost use Rattle.zk_show_chart.specs.Lines.{Place, before_feed, behind_feed, before_space, name_in, front, next_place, said_at, line_said, lines_said};
 ghost use Rattle.zk_show_chart.specs.Passing.{IsBehind, Passes};
 
 use std::alloc::Global;
@@ -21,11 +20,11 @@ pub struct Line<'a> {
     pub text: &'a [u8],
 }
 
-/// Where the first line feed of a text is.
-fn feed_of(text: &[u8]) -> Option<usize>
-    ensures { result ≡ position (λ b. b == line_feed) text.now }
+/// Where a byte stands first in a text.
+fn place_of(byte: u8, text: &[u8]) -> Option<usize>
+    ensures { result ≡ position (λ b. b == byte) text.now }
 {
-    text.iter().position(|byte| *byte == b'\n')
+    text.iter().position(|other| *other == byte)
 }
 
 /// What stands before the first line feed of a text, and behind it.
@@ -33,22 +32,32 @@ fn cut(text: &[u8]) -> (&[u8], &[u8])
     ensures before { result.0.now ≡ before_feed text.now }
     ensures behind { result.1.now ≡ behind_feed text.now }
 {
-    match feed_of(text) {
+    match place_of(b'\n', text) {
         Some(end) => (&text[..end], &text[end + 1..]),
         None => (text, &[]),
+    }
+}
+
+/// What stands before the first space of a text.
+fn first_word(text: &[u8]) -> &[u8]
+    ensures { result.now ≡ before_space text.now }
+{
+    match place_of(b' ', text) {
+        Some(end) => &text[..end],
+        None => text,
     }
 }
 
 /// What stands before the name of a service in the head of its section.
 const SERVICE: &[u8] = b"service ";
 
-/// The name of a service, by the head of its section.
+/// The name of a service, by the head of its section: the word behind the first.
 #[tactic(auto, unfolding(crate::specs::Lines::name_in))]
 fn name_in(head: &[u8]) -> &[u8]
     ensures { result.now ≡ name_in head.now }
 {
     match head.strip_prefix(SERVICE) {
-        Some(name) => name,
+        Some(words) => first_word(words),
         None => head,
     }
 }

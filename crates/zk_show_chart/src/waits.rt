@@ -1,10 +1,10 @@
 use std::alloc::Global;
 use std::collections::VecDeque;
-use zk_base::{Entry, NoMemory, WaitList, Waiter, Who};
+use zk_base::{Entry, MOST_PLAYERS, NoMemory, WaitList, Waiter, Who};
 use zk_model_wait::{MsgqOp, MsgqReply, SemOp, SemReply};
 
 /// The most who wait at an object: as many as there are players.
-const MOST_WAITS: u64 = 64;
+const MOST_WAITS: u64 = MOST_PLAYERS as u64;
 
 /// The rows from which the entries of a semaphore come.
 #[derive(Drop)]

@@ -1,7 +1,5 @@
-use Rattle.std.proofs.Common.{◌≡◌, ℕ, Bool, List, length, get_or, eqb, ltb, ◌&&◌, refl, ap, subst, ◌∙◌, arith}
-use Rattle.std.specs.List.{list_any}
+use Rattle.std.proofs.Common.{◌≡◌, ℕ, Bool, List, length, get_or, refl, ap, subst, ◌∙◌, arith}
 use Rattle.std.proofs.lemmas.Option.{slice_get_within, slice_get_read}
-use Rattle.zk_base.specs.Limits.{most_players}
 use Rattle.zk_model_bus.specs.Table.{Setup}
 use Rattle.zk_objects.specs.First.{IsFirstThread}
 use Rattle.zk_objects.proofs.Firsts.{first-object}
@@ -15,11 +13,7 @@ returns c =
     let within = slice_get_within setup.kinds object c.args.kind c.requires.kind in
     let long = c.requires.setup.long in
     let ready = subst (λ (l : List Bool). c.index.result.now ≡ get_or l object c.index.result.now) (ap (λ (s : Setup). s.ready) view) c.index.ensures in
-    let allowed = c.deref.ensures.value ∙ ap (λ (s : Setup). s.allowed) view in
-    let threads = c.deref-2.ensures.value ∙ ap (λ (s : Setup). s.threads) view in
-    first-object setup object _ c.requires.setup c.requires.kind
-    (λ player. c.first_granted.ensures player
-    ∙ ap (λ (l : List (ℕ × ℕ)). ltb player most_players && list_any (λ (a : ℕ × ℕ). eqb a.0 player && eqb a.1 object) l) allowed)
-    refl
+    let threads = c.deref.ensures.value ∙ ap (λ (s : Setup). s.threads) view in
+    first-object setup object _ c.requires.setup c.requires.kind c.none.ensures refl
     (slice_get_read setup.ready (length setup.ready) object c.index.result.now refl (omega arith) ready)
     (subst (λ (l : List (ℕ × Bool)). IsFirstThread l object c.first_player.result) threads c.first_player.ensures)

@@ -1,10 +1,7 @@
-use Rattle.std.proofs.Common.{◌≡◌, ℕ, Some, length, slice_get}
-use Rattle.zk_model_bus.specs.Table.{new_table}
-use Rattle.zk_objects.specs.declared.object.Object.{Object}
-use Rattle.zk_objects.specs.Kept.{IsObject}
+use Rattle.std.proofs.Common.{take}
+use Rattle.zk_objects.specs.First.{AreFirst, allowing}
 use Rattle.zk_objects.proofs.first.first_objects.Given as goal
 
-abbrev pub invariant-loop-object : goal.invariant-loop-object
-invariant-loop-object l =
-    (length l.objects.items ≡ l.object)
-    × ((object : ℕ) (x : Object) → slice_get l.objects.items object ≡ Some x → IsObject (new_table l.setup) object x)
+-- the permissions so far are given
+abbrev pub invariant-loop-permission : goal.invariant-loop-permission
+invariant-loop-permission l = AreFirst (allowing (take l.permission-index l.setup.allowed) l.setup) l.objects.items
