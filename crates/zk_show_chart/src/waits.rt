@@ -31,7 +31,7 @@ fn join<M: Drop + Copy, A: Drop + Copy>(
     who: Who,
     payload: M,
 ) -> Result<(), NoMemory> {
-    if waits.open() < MOST_WAITS {
+    if waits.open() < MOST_WAITS && waits.next() <= place && place < u64::MAX {
         waits.join(Waiter {
             place,
             who,
