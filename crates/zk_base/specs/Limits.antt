@@ -2,7 +2,7 @@ use Rattle.std.specs.Prelude.{ℕ, ◌-◌, ◌^◌}
 
 -- the most players of a scenario: its threads, and a worker for each of its queues
 abbrev pub most_players : ℕ
-most_players = 64
+most_players = 256
 
 -- the most entries of a history: their places, and one more, are numbers of 32 bits
 abbrev pub most_entries : ℕ

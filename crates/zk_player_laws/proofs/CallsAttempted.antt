@@ -2,6 +2,7 @@
 use Rattle.std.proofs.Common.{◌≡◌, ◌⊎◌, inl, inr, ℕ, suc, ◌+◌, ◌<◌, Bool, true, false, cond, eqb, nat_lt, Option, Some, None, List, [], ◌∷◌, ◌++◌, length, All, append-nil, append_assoc, refl, sym, ap, subst, ◌∙◌, arith}
 use Rattle.std.specs.List.{slice_get}
 use Rattle.std.specs.Option.{option_map}
+use Rattle.std.proofs.lemmas.Bool.{lt-ltb, le-ltb, leb-true, leb-false}
 use Rattle.std.proofs.lemmas.Bool.Decides.{nat_tests}
 use Rattle.std.proofs.lemmas.List.Elements.{All-head, All-tail}
 use Rattle.std.proofs.lemmas.Option.{option_and_then_some, same_Some}
@@ -302,10 +303,10 @@ module _ (s : Content) (number : ℕ) (start : PlayerPlace) (front : List StepMa
     own = checks_first (check_at s now) (frames_attempts s now.frames)
 
     spent-none : is_spent_at s now ≡ true → nat_lt (length now.spots) (steps_of s) ≡ false
-    spent-none is = grind (arith, nat_tests)
+    spent-none is = le-ltb (length now.spots) (steps_of s) (leb-true (steps_of s) (length now.spots) is)
 
     unspent : is_spent_at s now ≡ false → nat_lt (length now.spots) (steps_of s) ≡ true
-    unspent is = grind (arith, nat_tests)
+    unspent is = lt-ltb (length now.spots) (steps_of s) (leb-false (steps_of s) (length now.spots) is)
 
     by : (o : Option Check) → check_at s now ≡ o → ComeTo s number start front now.frames (checks_first o (frames_attempts s now.frames))
     by None none = own-frames now.frames left all

@@ -1,8 +1,7 @@
 -- The log of a player tells the state of its last place.
 use Rattle.std.proofs.Common.{◌≡◌, inl, inr, ℕ, ◌+◌, ◌<◌, ◌≤◌, ◌&&◌, ◌||◌, Bool, true, false, cond, is_some, List, [], ◌∷◌, ◌++◌, length, refl, ap, subst, ◌∙◌, arith}
 use Rattle.std.specs.List.{list_any}
-use Rattle.std.proofs.lemmas.Bool.{both_ways}
-use Rattle.std.proofs.lemmas.Bool.Decides.{nat_tests}
+use Rattle.std.proofs.lemmas.Bool.{both_ways, leb-true, leb-false}
 use Rattle.std.proofs.lemmas.List.{length_push}
 use Rattle.std.proofs.lemmas.List.Folds.{list_any-append}
 use Rattle.zk_scenario.specs.Content.{Content}
@@ -21,7 +20,7 @@ use Rattle.zk_worker.specs.Places.{PlayerPlace}
 use Rattle.zk_worker.specs.Protocol.{after, spot_of}
 use Rattle.zk_player_laws.specs.StateLaws.{IsAtRest, IsStateOf, EachStateTells, EachLogIsWhole}
 use Rattle.zk_worker.proofs.CheckedSteps.{after-spots}
-use Rattle.zk_worker.proofs.Limits.{ahead_short}
+use Rattle.zk_worker.proofs.Limits.{ahead_left}
 use Rattle.zk_worker.proofs.Starts.{start_at-fresh}
 use Rattle.zk_player_laws.proofs.UsersChecked.{each_user_is_checked}
 
@@ -57,7 +56,7 @@ short : (s : Content) (made : List StepMade) (at end : PlayerPlace) → length a
 short s [] at end few led = subst (λ (a : PlayerPlace). length a.spots ≤ steps_of s) led few
 short s (m ∷ more) at end few led =
     let here = ap (λ (l : List Spot). length l) (after-spots s at m.0 m.1).1 ∙ length_push at.spots (spot_of m.0 m.1) in
-    let below = ahead_short s at m.0 led.0 in
+    let below = ahead_left s at m.0 led.0 in
     short s more (after s at m.0 m.1) end (omega (arith, here, below)) led.1
 
 -- Whether a check has failed.
@@ -108,10 +107,10 @@ each_state_tells s number shown at is = by (is_spent_at s at) (is_dead at.mode) 
     ended = (each_user_is_checked s number shown at is).1
 
     left : is_spent_at s at ≡ false → length is.made < steps_of s
-    left unspent = let many : length at.spots < steps_of s = grind (arith, nat_tests) in omega (arith, count, many)
+    left unspent = let many = leb-false (steps_of s) (length at.spots) unspent in omega (arith, count, many)
 
     all : is_spent_at s at ≡ true → length is.made ≡ steps_of s
-    all spent = let many : steps_of s ≤ length at.spots = grind (arith, nat_tests) in omega (arith, count, many, few)
+    all spent = let many = leb-true (steps_of s) (length at.spots) spent in omega (arith, count, many, few)
 
     by : (spent dead done : Bool) → is_spent_at s at ≡ spent → is_dead at.mode ≡ dead → is_done at.frames ≡ done → IsStateOf s is.made at (cond spent Spent (cond dead Oops (cond done Done Standing)))
     by true dead done is_spent dies rest = all is_spent

@@ -1,6 +1,6 @@
 -- The run of a valid scenario: each of its worlds is sound, and its trace is lawful.
 use Rattle.std.proofs.Common.{◌≡◌, ℕ, ◌≤◌, false, List, length, refl, sym, ap, subst, ◌∙◌, arith}
-use Rattle.std.proofs.lemmas.Bool.Decides.{nat_tests}
+use Rattle.std.proofs.lemmas.Bool.{lt-leb}
 use Rattle.std.proofs.lemmas.List.Folds.{list_any_none}
 use Rattle.zk_scenario.specs.Content.{Content}
 use Rattle.zk_scenario.specs.Players.{players}
@@ -25,13 +25,15 @@ use Rattle.zk_world.proofs.Beginning.{sound-first}
 use Rattle.zk_world.proofs.Lawful.{sound-lawful, sound-halts, lawful-where}
 use Rattle.zk_world.proofs.Over.{sound-over}
 use Rattle.zk_world.proofs.Sound.{sound-stepped}
+use Rattle.zk_scenario.specs.Steps.{steps_of}
+use Rattle.zk_scenario.proofs.Steps.{steps-some}
 use Rattle.zk_replay.specs.RoundRobin.{round, rounds, IsRun}
 use Rattle.zk_replay.specs.Replay.{trace_of, IsReplay}
 use Rattle.zk_replay.proofs.OneRun.{none_goes_on}
 use Rattle.zk_replay.proofs.StillRounds.{first_possible-is, rounds-keep}
 
 unspent-fresh : (s : Content) (at : PlayerPlace) → length at.spots ≤ 0 → is_spent_at s at ≡ false
-unspent-fresh s at none = grind (arith, nat_tests)
+unspent-fresh s at none = lt-leb (steps_of s) (length at.spots) (omega (arith, none, steps-some s))
 
 -- no player of the first world is spent
 pub unspent-first : (s : Content) → is_spent s (first s) ≡ false

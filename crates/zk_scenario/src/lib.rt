@@ -19,7 +19,7 @@ pub use limits::{
 };
 pub use read::read_scenario;
 pub use refused::{ScenarioRefused, Why};
-pub use scenario::{MOST_STEPS, Scenario};
+pub use scenario::{FEW_PLAYERS, MOST_STEPS, STEPS_OF_MANY, Scenario};
 pub use text::print_scenario;
 pub use types::Script;
 pub use zk_line::{Call, Decl, Declared, Event, Events, Ref, word_of};

@@ -16,6 +16,12 @@ use zk_line::{Call, Decl, Declared, Objects};
 /// The most steps that a player of any scenario may make.
 pub const MOST_STEPS: u32 = 20_000;
 
+/// The most players of a scenario of which each may make so many.
+pub const FEW_PLAYERS: u32 = 64;
+
+/// The most steps that a player may make where there are more players.
+pub const STEPS_OF_MANY: u32 = 5_000;
+
 /// A scenario: declarations, and scripts over them. There is none but what has a text in the grammar.
 ///
 /// Objects are numbered from 0 in declared order; players are the threads and then the workers of the queues.
@@ -165,7 +171,11 @@ impl Scenario {
         ensures steps { result ≡ steps_of self.now }
         ensures most { result ≤ MOST_STEPS }
     {
-        MOST_STEPS
+        if self.players() <= FEW_PLAYERS {
+            MOST_STEPS
+        } else {
+            STEPS_OF_MANY
+        }
     }
 
     /// The player of a number.

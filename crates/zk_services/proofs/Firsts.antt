@@ -6,6 +6,7 @@ use Rattle.std.proofs.lemmas.List.FromFn.{length-range_with_len, get_or-range_wi
 use Rattle.zk_base.specs.Limits.{most_players}
 use Rattle.zk_scenario.specs.declared.limits.TheConstants.{MOST_QUEUES, MOST_ITEMS}
 use Rattle.zk_scenario.specs.Content.{Content}
+use Rattle.zk_scenario.specs.Steps.{steps_of}
 use Rattle.zk_scenario.specs.Valid.{IsValid}
 use Rattle.zk_line.specs.declared.types.Decl.{Decl}
 use Rattle.zk_line.specs.Objects.{places, is_thread, is_queue, is_item}
@@ -63,7 +64,7 @@ few-workers s valid =
 
 -- services that start as those of a scenario do have its machines
 pub machines-first : (s : Content) (p : Plain) →
-    work_start p.work ≡ work_start_of s → p.items.items ≡ items_of s.decls → clock_start p.clock ≡ new_clock →
+    work_start p.work ≡ work_start_of s → p.items.items ≡ items_of s.decls → p.most ≡ steps_of s → clock_start p.clock ≡ new_clock →
     objects_start p.table ≡ new_table (setup_of s) →
     starts_of sem_start p.sems.items ≡ map machines.sem_start s.decls →
     starts_of msgq_start p.msgqs.items ≡ map machines.msgq_start s.decls →
@@ -71,7 +72,7 @@ pub machines-first : (s : Content) (p : Plain) →
     starts_of chan_start p.chans.items ≡ map machines.chan_start s.decls →
     starts_of obs_start p.observers.items ≡ map machines.observer_start s.decls →
     plain_machines p ≡ machines_of s
-machines-first s p same_work same_items same_clock same_table same_sems same_msgqs same_signals same_chans same_observers = cc
+machines-first s p same_work same_items same_most same_clock same_table same_sems same_msgqs same_signals same_chans same_observers = cc
 
 -- and show nothing
 pub shown-first : (s : Content) (p : Plain) →

@@ -21,12 +21,13 @@ use Rattle.zk_worker.specs.Shown.{Shown}
 use Rattle.zk_services.specs.declared.plain.Plain.{Plain}
 use Rattle.zk_services.specs.Objects.{starts_of, histories_of}
 
--- the machine of each plain service, and the state that it started in
+-- the machine of each plain service, and the state that it started in, with how many steps a player may make
 abbrev pub plain_machines : Plain → Machines
 plain_machines p = record {
   work = work_machine;
   work_start = work_start p.work;
   items = p.items.items;
+  most = p.most;
   clock = clock_machine;
   clock_start = clock_start p.clock;
   table = table_machine;

@@ -253,6 +253,7 @@ pub fn first_services(alloc: Global, scenario: &Scenario) -> Result<Plain, NoMem
     Ok(Plain {
         work: first_work(alloc, scenario)?,
         items: item_numbers(alloc, scenario)?,
+        most: scenario.steps(),
         clock: Clock::new(alloc),
         table: first_table(alloc, scenario)?,
         sems: first_sems(alloc, scenario.decls())?,

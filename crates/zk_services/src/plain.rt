@@ -53,6 +53,8 @@ pub struct Plain {
     pub work: Work,
     /// The number of each item at the work service, by object number; an object of another kind has none.
     pub items: Vec<Option<u32>>,
+    /// How many steps a player may make.
+    pub most: u32,
     /// The clock service.
     pub clock: Clock,
     /// The object table.

@@ -74,6 +74,17 @@ after-spots s at step reply = by (check_at s at) where
   by (Some check) = by_why check.word (oops_in reply) (spot_of step reply)
   by None = (refl, refl)
 
+-- and it keeps its room
+pub after-most : (s : Content) (at : PlayerPlace) (step : Step) (reply : StepReply) → (after s at step reply).most ≡ at.most
+after-most s at step reply = by (check_at s at) where
+  by_why : (word : Word) (why : Option OopsWhy) (spot : Spot) → (checked at word why spot).most ≡ at.most
+  by_why word None spot = refl
+  by_why word (Some why) spot = refl
+
+  by : (check : Option Check) → (after_by s at step reply check).most ≡ at.most
+  by (Some check) = by_why check.word (oops_in reply) (spot_of step reply)
+  by None = refl
+
 -- only a user's call is at its checks, and it is the innermost
 pub check-of-top : (s : Content) (mode : Mode) (passed : ℕ) (frames : List Frame) (check : Check) → next_check s mode passed frames ≡ Some check → top_check s passed frames ≡ Some check
 check-of-top s User passed frames check is = is

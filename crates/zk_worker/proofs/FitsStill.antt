@@ -234,8 +234,9 @@ after-fits s at made reply valid fit ahead told passes = turn (IsFit s) s at mad
         free = fit.free;
         begun = fit.begun;
         passed = passed-more s at.passed at.frames is.check (check-of-top s at.mode at.passed at.frames is.check is.comes) asked fit.passed;
+        room = fit.room;
       }
-  by_why is (Some why) some = record { frames = All-nil _; free = All-nil _; begun = All-nil (HasBegun s); passed = tt }
+  by_why is (Some why) some = record { frames = All-nil _; free = All-nil _; begun = All-nil (HasBegun s); passed = tt; room = fit.room }
 
   by_own : IsOwn s at made → IsFit s (moved s at made (frames_progress s at.frames made reply) (spot_of made reply))
   by_own is =
@@ -246,6 +247,7 @@ after-fits s at made reply valid fit ahead told passes = turn (IsFit s) s at mad
         free = users-after s at.mode made at.frames progress is.index is.ahead fits fit.free;
         begun = begun-after s at.frames progress objects fit.begun;
         passed = passed-none s (frames_after s at.frames progress);
+        room = fit.room;
       }
 
 -- A player from its start.
@@ -263,6 +265,7 @@ starting-fit s number object decl is =
       free = settled-all (IsUsers s (start_mode decl)) s (first ∷ []) (All-cons (IsUsers s (start_mode decl)) first [] (starts-user s object decl is) (All-nil (IsUsers s (start_mode decl))));
       begun = settled-all (HasBegun s) s (first ∷ []) (All-cons (HasBegun s) first [] (λ started. absurd (cc)) (All-nil (HasBegun s)));
       passed = passed-none s (starting s number object decl).frames;
+      room = refl;
     }
 
 -- a player that has made no step fits

@@ -1,5 +1,5 @@
 -- What a step keeps of the limits of a player.
-use Rattle.std.proofs.Common.{◌≡◌, ℕ, ◌+◌, ◌<◌, ◌≤◌, true, false, Option, Some, None, List, [], ◌∷◌, ◌++◌, length, All, sym, subst, arith, cond, length-append, nat_lt}
+use Rattle.std.proofs.Common.{◌≡◌, ℕ, ◌+◌, ◌<◌, ◌≤◌, true, false, Option, Some, None, List, [], ◌∷◌, ◌++◌, length, All, sym, ap, subst, arith, cond, length-append, nat_lt}
 use Rattle.std.specs.List.{slice_get}
 use Rattle.std.proofs.lemmas.List.Elements.{All-nil, All-cons, All-head, All-tail, All-weaker}
 use Rattle.std.proofs.lemmas.Bool.{ltb-true}
@@ -38,14 +38,13 @@ use Rattle.zk_worker.proofs.CheckedSteps.{check_at, checks_first-few}
 use Rattle.zk_worker.proofs.PollSteps.{poll_attempts-few}
 
 -- a player with a next attempt has made fewer steps than it may
+pub ahead_left : (s : Content) (at : PlayerPlace) (step : Step) → IsAhead s at step → length at.spots < steps_of s
+ahead_left s at step ahead =
+    ltb-true (length at.spots) (steps_of s)
+    (cond_nil-at (nat_lt (length at.spots) (steps_of s)) (checks_first (check_at s at) (frames_attempts s at.frames)) ahead.0 step ahead.1).0
+
 pub ahead_short : (s : Content) (at : PlayerPlace) (step : Step) → IsAhead s at step → length at.spots < MOST_STEPS
-ahead_short s at step ahead =
-    omega (
-      arith,
-      steps-most s,
-      ltb-true (length at.spots) (steps_of s)
-          (cond_nil-at (nat_lt (length at.spots) (steps_of s)) (checks_first (check_at s at) (frames_attempts s at.frames)) ahead.0 step ahead.1).0,
-    )
+ahead_short s at step ahead = omega (arith, steps-most s, ahead_left s at step ahead)
 
 -- what holds of each frame holds of those that are left
 pub settled-all : (P : Frame → Type 0) (s : Content) (frames : List Frame) → All P frames → All P (settled s frames)
@@ -103,17 +102,36 @@ answers_after-length answers number (Answers word answer) =
     omega (arith, length-append answers (record { step = number; word = word; answer = answer } ∷ []))
 answers_after-length answers number (Enters owner stage) = omega arith
 
+-- a player that has made no step is within its limits
+pub IsRoomy-fresh : (s : Content) (role : Role) (frames : List Frame) (answers : List Answered) (spots : List Spot) (most a b c : ℕ) →
+    frames ≡ settled s (first_frame role ∷ []) → answers ≡ [] → spots ≡ [] → most ≤ MOST_STEPS → MOST_FRAMES ≤ a → most ≤ b → most ≤ c → IsRoomy most 0 frames answers spots a b c
+IsRoomy-fresh s role frames answers spots most a b c frames_are answers_are spots_are few for_a for_b for_c =
+    let first = first_frame role in
+    let P : Frame → Type 0 = λ frame. frame.next ≤ length spots in
+    record {
+      few_frames = omega (arith, ap (λ (l : List Frame). length l) frames_are, settled-length s (first ∷ []));
+      few_answers = omega (arith, ap (λ (l : List Answered). length l) answers_are);
+      few_spots = omega (arith, ap (λ (l : List Spot). length l) spots_are);
+      few_steps = few;
+      nexts = subst (λ (l : List Frame). All P l) (sym frames_are) (settled-all P s (first ∷ []) (All-cons P first [] (omega arith) (All-nil P)));
+      few_passed = omega arith;
+      for_frames = for_a;
+      for_answers = for_b;
+      for_spots = for_c;
+    }
+
 -- the limits are kept by a step of a player that has made fewer steps than it may
-pub IsRoomy-moved : (s : Content) (frames frames' : List Frame) (answers answers' : List Answered) (spots spots' : List Spot) (spot : Spot) (number : ℕ) (progress : Progress) (passed a b c a' b' c' : ℕ) →
-    IsRoomy passed frames answers spots a b c → length spots < MOST_STEPS →
+pub IsRoomy-moved : (s : Content) (frames frames' : List Frame) (answers answers' : List Answered) (spots spots' : List Spot) (spot : Spot) (number : ℕ) (progress : Progress) (most passed a b c a' b' c' : ℕ) →
+    IsRoomy most passed frames answers spots a b c → length spots < most →
     frames' ≡ frames_after s frames progress → answers' ≡ answers_after answers number progress → spots' ≡ spots ++ spot ∷ [] →
-    a ≤ a' → b ≤ b' → c ≤ c' → IsRoomy 0 frames' answers' spots' a' b' c'
-IsRoomy-moved s frames frames' answers answers' spots spots' spot number progress passed a b c a' b' c' was short frames_are answers_are spots_are for_a for_b for_c =
+    a ≤ a' → b ≤ b' → c ≤ c' → IsRoomy most 0 frames' answers' spots' a' b' c'
+IsRoomy-moved s frames frames' answers answers' spots spots' spot number progress most passed a b c a' b' c' was short frames_are answers_are spots_are for_a for_b for_c =
     let long : length (spots ++ spot ∷ []) ≡ length spots + 1 = omega (arith, length-append spots (spot ∷ [])) in
-    let here : IsRoomy 0 (frames_after s frames progress) (answers_after answers number progress) (spots ++ spot ∷ []) a' b' c' = record {
+    let here : IsRoomy most 0 (frames_after s frames progress) (answers_after answers number progress) (spots ++ spot ∷ []) a' b' c' = record {
       few_frames = frames_after-length s frames progress was.few_frames;
       few_answers = omega (arith, was.few_answers, answers_after-length answers number progress);
       few_spots = omega arith;
+      few_steps = was.few_steps;
       nexts = subst (λ (n : ℕ). All (λ frame. frame.next ≤ n) (frames_after s frames progress)) (sym long)
           (frames_after-nexts s (length spots) frames progress was.nexts);
       few_passed = omega arith;
@@ -121,9 +139,9 @@ IsRoomy-moved s frames frames' answers answers' spots spots' spot number progres
       for_answers = omega (arith, was.for_answers);
       for_spots = omega (arith, was.for_spots);
     } in
-    subst (λ (f : List Frame). IsRoomy 0 f answers' spots' a' b' c') (sym frames_are)
-    (subst (λ (n : List Answered). IsRoomy 0 (frames_after s frames progress) n spots' a' b' c') (sym answers_are)
-    (subst (λ (p : List Spot). IsRoomy 0 (frames_after s frames progress) (answers_after answers number progress) p a' b' c') (sym spots_are) here))
+    subst (λ (f : List Frame). IsRoomy most 0 f answers' spots' a' b' c') (sym frames_are)
+    (subst (λ (n : List Answered). IsRoomy most 0 (frames_after s frames progress) n spots' a' b' c') (sym answers_are)
+    (subst (λ (p : List Spot). IsRoomy most 0 (frames_after s frames progress) (answers_after answers number progress) p a' b' c') (sym spots_are) here))
 
 -- a call that may wait has at most two attempts at a time: the end of its wait, and that of its alarm
 wait_attempts-few : (waiting : Waiting) (timeout : Timeout) (stage : Stage) → length (wait_attempts waiting timeout stage) ≤ 2

@@ -16,15 +16,16 @@ use Rattle.zk_worker.specs.Places.{PlayerPlace}
 use Rattle.zk_worker.specs.Protocol.{starting, start_at}
 
 -- equal parts make equal places
-pub At-same : (w w' : Who) (m m' : Mode) (n : ℕ) (f f' : List Frame) (a a' : List Answered) (p p' : List Spot) → w ≡ w' → m ≡ m' → f ≡ f' → a ≡ a' → p ≡ p' →
-    ◌≡◌ {A = PlayerPlace} (record { who = w; mode = m; passed = n; frames = f; answers = a; spots = p }) (record { who = w'; mode = m'; passed = n; frames = f'; answers = a'; spots = p' })
-At-same w w' m m' n f f' a a' p p' ew em ef ea ep =
-    let P : PlayerPlace → Type 0 = λ x. ◌≡◌ {A = PlayerPlace} (record { who = w; mode = m; passed = n; frames = f; answers = a; spots = p }) x in
-    subst (λ (x : List Spot). P (record { who = w'; mode = m'; passed = n; frames = f'; answers = a'; spots = x })) ep
-    (subst (λ (x : List Answered). P (record { who = w'; mode = m'; passed = n; frames = f'; answers = x; spots = p })) ea
-    (subst (λ (x : List Frame). P (record { who = w'; mode = m'; passed = n; frames = x; answers = a; spots = p })) ef
-    (subst (λ (x : Mode). P (record { who = w'; mode = x; passed = n; frames = f; answers = a; spots = p })) em
-    (subst (λ (x : Who). P (record { who = x; mode = m; passed = n; frames = f; answers = a; spots = p })) ew refl))))
+pub At-same : (w w' : Who) (r r' : ℕ) (m m' : Mode) (n : ℕ) (f f' : List Frame) (a a' : List Answered) (p p' : List Spot) → w ≡ w' → r ≡ r' → m ≡ m' → f ≡ f' → a ≡ a' → p ≡ p' →
+    ◌≡◌ {A = PlayerPlace} (record { who = w; most = r; mode = m; passed = n; frames = f; answers = a; spots = p }) (record { who = w'; most = r'; mode = m'; passed = n; frames = f'; answers = a'; spots = p' })
+At-same w w' r r' m m' n f f' a a' p p' ew er em ef ea ep =
+    let P : PlayerPlace → Type 0 = λ x. ◌≡◌ {A = PlayerPlace} (record { who = w; most = r; mode = m; passed = n; frames = f; answers = a; spots = p }) x in
+    subst (λ (x : List Spot). P (record { who = w'; most = r'; mode = m'; passed = n; frames = f'; answers = a'; spots = x })) ep
+    (subst (λ (x : List Answered). P (record { who = w'; most = r'; mode = m'; passed = n; frames = f'; answers = x; spots = p })) ea
+    (subst (λ (x : List Frame). P (record { who = w'; most = r'; mode = m'; passed = n; frames = x; answers = a; spots = p })) ef
+    (subst (λ (x : Mode). P (record { who = w'; most = r'; mode = x; passed = n; frames = f; answers = a; spots = p })) em
+    (subst (λ (x : ℕ). P (record { who = w'; most = x; mode = m; passed = n; frames = f; answers = a; spots = p })) er
+    (subst (λ (x : Who). P (record { who = x; most = r; mode = m; passed = n; frames = f; answers = a; spots = p })) ew refl)))))
 
 -- a declared object that is a player's is where this player starts
 pub start_at-found : (s : Content) (number object : ℕ) (decl : Decl) → slice_get (players s.decls) number ≡ Some object → slice_get s.decls object ≡ Some decl →

@@ -6,6 +6,7 @@ use Rattle.zk_base.specs.Legal.{Machine, state_after}
 use Rattle.zk_line.specs.declared.types.Decl.{Decl}
 use Rattle.zk_line.specs.declared.types.Decl.TheVariants as decls
 use Rattle.zk_scenario.specs.Content.{Content}
+use Rattle.zk_scenario.specs.Steps.{steps_of}
 use Rattle.zk_line.specs.Objects.{places, number_of, is_at, is_thread, is_queue, is_item}
 use Rattle.zk_model_bus.specs.declared.channel.ChanOp.{ChanOp}
 use Rattle.zk_model_bus.specs.declared.channel.ChanReply.{ChanReply}
@@ -89,11 +90,13 @@ observer_start (decls.Listener name) = Some (new_obs None)
 observer_start (decls.Sub name capacity) = Some (new_obs (Some capacity))
 observer_start decl = None
 
--- the machine of each service, and the state that it starts in; and by object number the number of each item at the work service
+-- the machine of each service, and the state that it starts in; by object number the number of each item at the work service;
+-- and how many steps of a player they have room for
 pub record Machines : Type 0 where
   pub work : Machine State WorkOp WorkReply
   pub work_start : State
   pub items : List (Option ℕ)
+  pub most : ℕ
   pub clock : Machine Clock ClockOp ClockReply
   pub clock_start : Clock
   pub table : Machine Table TableOp TableReply
@@ -119,6 +122,7 @@ machines_of s = record {
   work = work_machine;
   work_start = work_start_of s;
   items = items_of s.decls;
+  most = steps_of s;
   clock = clock_machine;
   clock_start = new_clock;
   table = table_machine;

@@ -214,6 +214,7 @@ role_at decl object = Script object
 abbrev pub starting : Content → ℕ → ℕ → Decl → PlayerPlace
 starting s number object decl = record {
   who = record { number = number; prio = prio_of decl };
+  most = steps_of s;
   mode = start_mode decl;
   passed = 0;
   frames = settled s (first_frame (role_at decl object) ∷ []);

@@ -12,6 +12,7 @@ use Rattle.zk_base.specs.declared.kinds.Need.{Need}
 use Rattle.zk_model_bus.specs.declared.table.TableOp.TheVariants as table_ops
 use Rattle.zk_scenario.specs.Content.{Content}
 use Rattle.zk_scenario.specs.Players.{calls_of}
+use Rattle.zk_scenario.specs.Steps.{steps_of}
 use Rattle.zk_worker.specs.declared.checks.Mode.{Mode}
 use Rattle.zk_worker.specs.declared.checks.Mode.TheVariants.{User}
 use Rattle.zk_worker.specs.Checks.{oops_in}
@@ -104,13 +105,18 @@ abbrev pub ArePassed : Content → ℕ → List Frame → Type 0
 ArePassed s passed [] = Unit {0}
 ArePassed s passed (frame ∷ below) = ArePassedAt s passed frame.role frame.next
 
+-- a player has room for the steps that it may make in a scenario
+abbrev pub HasRoomIn : Content → PlayerPlace → Type 0
+HasRoomIn s at = at.most ≡ steps_of s
+
 -- what is open fits, calls in free lines are a user's, and each call has the objects that it needs when it has begun: so all that
--- the player attempts is in range
+-- the player attempts is in range. And there is room for its steps
 pub record IsFit (s : Content) (at : PlayerPlace) : Type 0 where
   pub frames : FramesFit s.decls at.frames
   pub free : All (IsUsers s at.mode) at.frames
   pub begun : All (HasBegun s) at.frames
   pub passed : ArePassed s at.passed at.frames
+  pub room : HasRoomIn s at
 
 -- what a check asks for is an object, and what it has to be
 abbrev pub IsAsked : List Decl → Option ℕ → Need → Type 0

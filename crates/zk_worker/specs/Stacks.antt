@@ -14,13 +14,14 @@ is_top_over s [] = false
 is_top_over s (frame ∷ below) = is_over s frame.role frame.next
 
 -- what a player keeps holds its limits, and there is room for all that it may come to keep
-pub record IsRoomy (passed : ℕ) (frames : List Frame) (answers : List Answered) (spots : List Spot)
+pub record IsRoomy (most passed : ℕ) (frames : List Frame) (answers : List Answered) (spots : List Spot)
     (room_frames room_answers room_spots : ℕ) : Type 0 where
   pub few_frames : length frames ≤ MOST_FRAMES
   pub few_answers : length answers ≤ length spots
-  pub few_spots : length spots ≤ MOST_STEPS
+  pub few_spots : length spots ≤ most
+  pub few_steps : most ≤ MOST_STEPS
   pub nexts : All (λ frame. frame.next ≤ length spots) frames
   pub few_passed : passed ≤ length spots
   pub for_frames : MOST_FRAMES ≤ room_frames
-  pub for_answers : MOST_STEPS ≤ room_answers
-  pub for_spots : MOST_STEPS ≤ room_spots
+  pub for_answers : most ≤ room_answers
+  pub for_spots : most ≤ room_spots

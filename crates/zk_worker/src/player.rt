@@ -5,7 +5,7 @@ ghost use Rattle.zk_worker.specs.Checks.{next_check};
 ghost use Rattle.zk_worker.specs.Next.{next_call};
 ghost use Rattle.zk_worker.specs.Protocol.{attempts, after, frames_progress, checked, moved, spot_of, start_at, starting, role_at, IsAhead};
 ghost use Rattle.zk_worker.specs.Follows.{state_at, log_of, is_done, is_through, is_between, is_spent_at, StandsMore, IsFollowing};
-ghost use Rattle.zk_worker.specs.Ranges.{IsFit, ReplyFits, PassesFit};
+ghost use Rattle.zk_worker.specs.Ranges.{IsFit, HasRoomIn, ReplyFits, PassesFit};
 ghost use Rattle.zk_worker.specs.Machines.{Machines};
 ghost use Rattle.zk_worker.specs.Shown.{Shown, ShowsLog};
 ghost use Rattle.zk_worker.specs.Right.{LooksRight};
@@ -31,6 +31,8 @@ use zk_scenario::{Call, Decl, MOST_STEPS, Scenario};
 #[derive(Drop)]
 pub struct Player {
     who: Who,
+    // How many steps it has room for.
+    most: u32,
     mode: Mode,
     // How many checks it has passed in the call that comes next.
     passed: u32,
@@ -49,6 +51,7 @@ impl Model for Player {
 
     ghost view = { λ p. record {
       who = p.who;
+      most = p.most;
       mode = p.mode;
       passed = p.passed;
       frames = reverse p.stack.items;
@@ -57,7 +60,7 @@ impl Model for Player {
     } };
 
     ghost invariant = { λ p.
-        IsRoomy p.passed (reverse p.stack.items) p.answers.items p.spots.items
+        IsRoomy p.most p.passed (reverse p.stack.items) p.answers.items p.spots.items
         (vec_capacity p.stack) p.answers.room (vec_capacity p.spots) };
 }
 
@@ -151,16 +154,18 @@ impl Player {
             unreachable!()
         };
         let who = who_at(number, decl);
+        let most = scenario.steps();
         let mut stack = Vec::with_capacity(alloc, MOST_FRAMES)?;
         open_frame(&mut stack, role_at(decl, object));
         settle(scenario, &mut stack);
         Ok(Player {
             who,
+            most,
             mode: start_mode(decl),
             passed: 0,
             stack,
-            answers: AnswerRows::with_capacity(alloc, MOST_STEPS as usize)?,
-            spots: Vec::with_capacity(alloc, MOST_STEPS as usize)?,
+            answers: AnswerRows::with_capacity(alloc, most as usize)?,
+            spots: Vec::with_capacity(alloc, most as usize)?,
         })
     }
 
@@ -201,6 +206,7 @@ impl Player {
 
     /// Adds one of these attempts, which was answered so.
     pub fn made(&mut self, scenario: &Scenario, step: &Step, reply: &StepReply)
+        requires room { HasRoomIn scenario.now self.old }
         requires ahead { IsAhead scenario.now self.old step.now }
         ensures next { self.new ≡ after scenario.now self.old step.now reply.now }
 
@@ -234,7 +240,7 @@ impl Player {
     // Out of line: supervisors make none.
     #[inline(never)]
     fn check(&mut self, word: Word, why: Option<OopsWhy>, spot: Spot)
-        requires { length self.old.spots < MOST_STEPS }
+        requires { length self.old.spots < self.old.most }
         ensures { self.new ≡ checked self.old word why spot }
     {
         match why {
@@ -253,7 +259,7 @@ impl Player {
 
     /// The innermost open script or run goes on.
     fn go_on(&mut self, scenario: &Scenario, step: &Step, reply: &StepReply)
-        requires { length self.old.spots < MOST_STEPS }
+        requires { length self.old.spots < self.old.most }
         ensures { self.new ≡ moved scenario.now self.old step.now
             (frames_progress scenario.now self.old.frames step.now reply.now) (spot_of step.now reply.now) }
     {
@@ -368,6 +374,7 @@ impl Player {
         let state = self.state(scenario);
         let Player {
             who: _,
+            most: _,
             mode: _,
             passed: _,
             stack: _,

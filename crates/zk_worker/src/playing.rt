@@ -1,5 +1,6 @@
 ghost use Rattle.std.specs.Prelude.{◌≡◌, ℕ, ◌<◌, Bool, true, false, None, length, IfOk, OnErr};
 ghost use Rattle.zk_base.specs.declared.ids.Who.{Who};
+ghost use Rattle.zk_scenario.specs.Steps.{steps_of};
 ghost use Rattle.zk_scenario.specs.Valid.{IsValid};
 ghost use Rattle.zk_worker.specs.Protocol.{attempts, IsAhead};
 ghost use Rattle.zk_worker.specs.Follows.{IsFollowing};
@@ -38,6 +39,7 @@ fn try_ahead<V: Services>(
     requires served { V.serves services.old player.now.who }
     requires range { (step : Step) → IsAhead scenario.now player.now step →
         is_in_range (V.machines services.old) step ≡ true }
+    requires room { (V.machines services.old).most ≡ steps_of scenario.now }
     requires log { ShowsLog (V.shown services.old) player.now.who.number player.now.spots }
     requires short { V.alone services.old ≡ true → AreShort (V.shown services.old) }
     ensures tried { IfOk result (λ told.

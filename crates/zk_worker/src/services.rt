@@ -18,7 +18,7 @@ pub trait Services {
     /// What they stand on. No call changes it.
     ghost home: { Self → Self.Home };
 
-    /// The machines that the services are the services of. No call changes them.
+    /// The machines that the services are the services of, and how many steps of a player they have room for. No call changes them.
     ghost machines: { Self → Machines };
 
     /// The players whom they serve. No call changes them.
@@ -43,6 +43,7 @@ pub trait Services {
         requires served { serves self.old who }
         requires range { is_in_range (machines self.old) step.now ≡ true }
         requires number { number < MOST_STEPS }
+        requires room { number < (machines self.old).most }
         requires later { IsLater (shown self.old) who.number number }
         requires short { alone self.old ≡ true → AreShort (shown self.old) }
 

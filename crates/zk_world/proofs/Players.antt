@@ -1,11 +1,8 @@
 -- What holds of a player holds after each step of its own, and as others play.
-use Rattle.std.proofs.Common.{◌≡◌, ◌⊎◌, inl, inr, ℕ, ◌<◌, Bool, Some, List, [], ◌∷◌, length, All, nat_lt, refl, sym, ap, subst, ◌∙◌, arith, length-append}
-use Rattle.std.proofs.lemmas.Bool.{ltb-true}
+use Rattle.std.proofs.Common.{◌≡◌, ◌⊎◌, inl, inr, ℕ, Bool, Some, List, [], ◌∷◌, length, All, refl, sym, ap, subst, ◌∙◌, arith, length-append}
 use Rattle.std.proofs.lemmas.List.Elements.{All-nil, All-push}
 use Rattle.zk_base.specs.declared.ids.Who.{Who}
-use Rattle.zk_base.proofs.Lists.{cond_nil-at}
 use Rattle.zk_scenario.specs.Content.{Content}
-use Rattle.zk_scenario.specs.Steps.{steps_of}
 use Rattle.zk_scenario.specs.Valid.{IsValid}
 use Rattle.zk_worker.specs.declared.playing.Stepped.{Stepped}
 use Rattle.zk_worker.specs.declared.playing.Stepped.TheVariants.{Did, NotYet, Ended, Spent}
@@ -13,18 +10,18 @@ use Rattle.zk_worker.specs.declared.steps.Spot.{Spot}
 use Rattle.zk_worker.specs.declared.steps.Step.{Step}
 use Rattle.zk_worker.specs.declared.steps.StepReply.{StepReply}
 use Rattle.zk_worker.specs.Attempt.{reply_in, IsMade, Counts}
-use Rattle.zk_worker.specs.Checks.{next_check}
 use Rattle.zk_worker.specs.Follows.{IsFollowing}
 use Rattle.zk_worker.specs.Machines.{Machines, machines_of}
 use Rattle.zk_worker.specs.Places.{PlayerPlace}
 use Rattle.zk_worker.specs.Playing.{StepOutcome}
-use Rattle.zk_worker.specs.Protocol.{IsAhead, after, spot_of, start_at, checks_first, frames_attempts}
+use Rattle.zk_worker.specs.Protocol.{IsAhead, after, spot_of, start_at}
 use Rattle.zk_worker.specs.Right.{LooksRight}
 use Rattle.zk_worker.specs.Shown.{Shown, ShowsLog, nothing_shown, OnlyOthersCame}
 use Rattle.zk_worker.proofs.Between.{log-none, log-still}
 use Rattle.zk_worker.proofs.CheckedSteps.{after-spots}
 use Rattle.zk_worker.proofs.FitsStill.{ahead-fits, after-fits, start_at-fits}
 use Rattle.zk_worker.proofs.Following.{following-between, following-fresh, following-more, stands-made}
+use Rattle.zk_worker.proofs.Limits.{ahead_left}
 use Rattle.zk_worker.proofs.Looking.{looks-fresh, looks-still, looks-stepped}
 use Rattle.zk_worker.proofs.PassedChecks.{replied-passes}
 use Rattle.zk_worker.proofs.Replied.{replied-fits}
@@ -69,12 +66,6 @@ player-still alone s at old new came sound = record {
   works = at-work-still alone s at old new came sound.works;
 }
 
--- a player with an attempt has steps left
-ahead-short : (s : Content) (at : PlayerPlace) (step : Step) → IsAhead s at step → length at.spots < steps_of s
-ahead-short s at step ahead =
-    ltb-true (length at.spots) (steps_of s)
-    (cond_nil-at (nat_lt (length at.spots) (steps_of s)) (checks_first (next_check s at.mode at.passed at.frames) (frames_attempts s at.frames)) ahead.0 step ahead.1).0
-
 module _ (alone : Bool) (m : Machines) (s : Content) (at : PlayerPlace) (step : Step) (reply : StepReply) (old new : Shown)
     (valid : IsValid s) (same : m ≡ machines_of s) (sound : IsSoundPlayer s old at) (ahead : IsAhead s at step)
     (made : IsMade alone m at.who (length at.spots) step reply old new) where
@@ -113,7 +104,7 @@ module _ (alone : Bool) (m : Machines) (s : Content) (at : PlayerPlace) (step : 
             (following-more s at.who.number made.found new at step reply (stands-made alone m at step reply old new made) ahead before.follows);
         fits = after-fits s at step reply valid sound.fits ahead (replied-fits s m made.found at.who step reply valid same made.replied)
             (replied-passes s m made.found at.who step reply same made.replied);
-        short = omega (arith, longer, length-append at.spots (spot_of step reply ∷ []), ahead-short s at step ahead);
+        short = omega (arith, longer, length-append at.spots (spot_of step reply ∷ []), ahead_left s at step ahead);
         known = subst (IsKnownWho s) (sym kept.0) sound.known;
         asked = asked;
         sighted = subst (All (LookFits s.decls)) (sym kept.1)

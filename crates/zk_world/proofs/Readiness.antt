@@ -1,7 +1,7 @@
 -- What a step keeps of a world in which each player can go on.
 use Rattle.std.proofs.Common.{◌≡◌, ◌≢◌, ◌⊎◌, ℕ, ◌+◌, ◌<◌, ◌≤◌, true, false, Option, Some, List, [], All, ◌∷◌, ◌++◌, length, map, set, inl, inr, refl, sym, ap, subst, ◌∙◌, arith, length-append}
 use Rattle.std.specs.List.{slice_get}
-use Rattle.std.proofs.lemmas.Bool.Decides.{nat_tests}
+use Rattle.std.proofs.lemmas.Bool.{leb-false}
 use Rattle.std.proofs.lemmas.List.{length-set, length-map}
 use Rattle.std.proofs.lemmas.List.Elements.{All-set, All-map, All-weaker}
 use Rattle.zk_base.proofs.Lists.{All-at}
@@ -46,7 +46,7 @@ pub short-shown : (s : Content) (w : World) → IsReady s w → AreShort w.shown
 short-shown s w ready = short-within w.shown w.players ready.few (few-steps s w.players ready.short) ready.within
 
 unspent-short : (s : Content) (at : PlayerPlace) → is_spent_at s at ≡ false → length at.spots < steps_of s
-unspent-short s at is = grind (arith, nat_tests)
+unspent-short s at is = leb-false (steps_of s) (length at.spots) is
 
 -- a player that has made one step more
 record IsOneMore (s : Content) (at at' : PlayerPlace) : Type 0 where

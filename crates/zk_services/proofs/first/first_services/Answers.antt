@@ -11,6 +11,7 @@ abbrev made : goal.In_ok-first_observers → Plain
 made c = record {
   work = c.in_ok-first_work.field-0;
   items = c.in_ok-item_numbers.field-0;
+  most = c.steps.result;
   clock = c.new.result;
   table = c.in_ok-first_table.field-0;
   sems = c.in_ok-first_sems.field-0;
@@ -22,7 +23,7 @@ made c = record {
 
 pub returns-clause-machines : goal.returns-clause-machines
 returns-clause-machines c =
-    machines-first c.args.scenario.now (made c) c.in_ok-first_work.ensures.start c.in_ok-item_numbers.ensures c.new.ensures.start c.in_ok-first_table.ensures.start
+    machines-first c.args.scenario.now (made c) c.in_ok-first_work.ensures.start c.in_ok-item_numbers.ensures c.steps.ensures.steps c.new.ensures.start c.in_ok-first_table.ensures.start
     (c.in_ok-first_sems.ensures.starts ∙ ap (map machines.sem_start) c.decls.ensures.all)
     (c.in_ok-first_msgqs.ensures.starts ∙ ap (map machines.msgq_start) c.decls-2.ensures.all)
     (c.in_ok-first_signals.ensures.starts ∙ ap (map machines.signal_start) c.decls-3.ensures.all)

@@ -1,10 +1,11 @@
-use Rattle.std.proofs.Common.{ℕ, length, refl, sym, subst, arith, rules, ◌∙◌}
+use Rattle.std.proofs.Common.{ℕ, length, refl, sym, ap, subst, arith, rules, ◌∙◌}
 use Rattle.zk_base.specs.declared.ids.Who.{Who}
-use Rattle.zk_worker.specs.Protocol.{attempts}
+use Rattle.zk_worker.specs.Machines.{Machines}
+use Rattle.zk_worker.specs.Protocol.{attempts, IsAhead}
 use Rattle.zk_worker.specs.Shown.{IsLater}
 use Rattle.zk_worker.proofs.Between.{between-none, between-both, log-still, log-later}
 use Rattle.zk_worker.proofs.Trying.{attempted-some, attempted-none, attempted-err, tried-next, first-made, none-left, none-behind, tried-with, wanted-there}
-use Rattle.zk_worker.proofs.Limits.{attempts-few}
+use Rattle.zk_worker.proofs.Limits.{ahead_left, attempts-few}
 use Rattle.zk_worker.proofs.playing.try_ahead.Goals as goal
 
 pub loop-index-init : goal.loop-index-init
@@ -26,6 +27,13 @@ attempt-requires-clause-later g c =
     let still = log-still (g.V.Services.alone c.args.services.now) at.who.number at.spots old now c.requires.log c.loop-index.invariant.others in
     subst (λ (n : ℕ). IsLater now c.who.result.number n) (sym c.steps.ensures.count)
     (subst (λ (who : Who). IsLater now who.number (length at.spots)) (sym c.who.ensures) (log-later at.who.number at.spots now still))
+
+pub attempt-requires-clause-room : goal.attempt-requires-clause-room
+attempt-requires-clause-room g c =
+    let there : IsAhead c.args.scenario.now c.args.player.now c.in-Some.step = (c.loop-index.index, sym c.put_ahead.ensures ∙ c.in-Some.is) in
+    let left = ahead_left c.args.scenario.now c.args.player.now c.in-Some.step there in
+    let most = ap (λ (m : Machines). m.most) c.loop-index.invariant.machines in
+    omega (arith, left, most, c.requires.room, c.steps.ensures.count)
 
 pub returns-in-Some-2-clause-tried : goal.returns-in-Some-2-clause-tried
 returns-in-Some-2-clause-tried g c =

@@ -1,4 +1,4 @@
-use Rattle.std.proofs.Common.{◌≡◌, ◌<◌, ◌∙◌, Some, List, [], ◌∷◌, length, reverse, refl, sym, ap, subst}
+use Rattle.std.proofs.Common.{◌≡◌, ◌<◌, ◌∙◌, Some, List, [], ◌∷◌, length, reverse, refl, sym, ap, subst, arith}
 use Rattle.std.specs.List.{slice_get}
 use Rattle.std.proofs.lemmas.Option.{slice_get_read}
 use Rattle.zk_line.specs.declared.types.Decl.{Decl}
@@ -7,6 +7,7 @@ use Rattle.zk_worker.specs.declared.frames.Role.{Role}
 use Rattle.zk_worker.specs.Places.{PlayerPlace}
 use Rattle.zk_worker.specs.Protocol.{settled, first_frame, role_at}
 use Rattle.zk_worker.proofs.DeclaredObjects.{players-below}
+use Rattle.zk_worker.proofs.Limits.{IsRoomy-fresh}
 use Rattle.zk_worker.proofs.Starts.{At-same, start_at-found, start_at-fresh}
 use Rattle.zk_worker.proofs.FitsStill.{start_at-fits}
 use Rattle.zk_worker.proofs.Looking.{looks-fresh}
@@ -19,6 +20,16 @@ unreachable-requires-in_default-get c =
     let within : c.in-Some.object < length c.decls.result.now = subst (λ (l : List Decl). c.in-Some.object < length l) (sym c.decls.ensures.all) below in
     let bad = c.in_default-get.ensures.lookup.2 within in
     cc
+
+pub invariant_of-result : goal.invariant_of-result
+invariant_of-result c =
+    let s = c.args.scenario.now in
+    let stack : reverse c.open_frame.new.stack.items ≡ first_frame c.role_at.result ∷ [] =
+    c.open_frame.ensures.frames ∙ ap (λ (l : List Frame). first_frame c.role_at.result ∷ reverse l) c.in_ok-stack.ensures.items in
+    IsRoomy-fresh s c.role_at.result _ _ _ _ _ _ _ (c.settle.ensures.frames ∙ ap (λ (l : List Frame). settled s l) stack)
+    c.in_ok-with_capacity.ensures.items c.in_ok-with_capacity-2.ensures.items c.steps-most.ensures.most
+    (omega (arith, c.in_ok-stack.ensures.capacity, c.open_frame.ensures.capacity, c.settle.ensures.capacity))
+    c.in_ok-with_capacity.ensures.room c.in_ok-with_capacity-2.ensures.capacity
 
 pub returns-clause-start : goal.returns-clause-start
 returns-clause-start c =
@@ -34,7 +45,7 @@ returns-clause-start c =
     c.open_frame.ensures.frames ∙ ap (λ (l : List Frame). first_frame c.role_at.result ∷ reverse l) c.in_ok-stack.ensures.items
     ∙ ap (λ (r : Role). first_frame r ∷ []) c.role_at.ensures in
     let frames = c.settle.ensures.frames ∙ ap (λ (l : List Frame). settled s l) stack in
-    let made = At-same _ _ _ _ _ _ _ _ _ _ _ (sym c.who_at-who.ensures) (sym c.start_mode.ensures) (sym frames)
+    let made = At-same _ _ _ _ _ _ _ _ _ _ _ _ _ (sym c.who_at-who.ensures) (sym c.steps-most.ensures.steps) (sym c.start_mode.ensures) (sym frames)
     (sym c.in_ok-with_capacity.ensures.items) (sym c.in_ok-with_capacity-2.ensures.items) in
     start_at-found s c.args.number object decl (sym c.in-Some.ensures) declared ∙ ap (λ (x : PlayerPlace). Some x) made
 

@@ -1,4 +1,5 @@
-use Rattle.std.proofs.Common.{rules}
+use Rattle.std.proofs.Common.{ap, rules}
+use Rattle.zk_worker.specs.Machines.{Machines}
 use Rattle.zk_worker.proofs.Ranges.{ahead-takes}
 use Rattle.zk_worker.proofs.Between.{log-still}
 use Rattle.zk_worker.proofs.ShownSteps.{log-stepped}
@@ -12,6 +13,9 @@ use Rattle.zk_worker.proofs.player.Player.step.Goals as goal
 pub try_ahead-requires-clause-range : goal.try_ahead-requires-clause-range
 try_ahead-requires-clause-range g c =
     ahead-takes c.args.scenario.now (g.V.Services.machines c.args.services.now) c.args.self.now c.requires.valid c.requires.machines c.requires.fits
+
+pub try_ahead-requires-clause-room : goal.try_ahead-requires-clause-room
+try_ahead-requires-clause-room g c = ap (λ (m : Machines). m.most) c.requires.machines
 
 pub returns-in_err-told-clause-log : goal.returns-in_err-told-clause-log
 returns-in_err-told-clause-log g c = log-still _ _ _ _ _ c.requires.log c.in_err-told.ensures.err
