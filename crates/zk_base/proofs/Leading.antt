@@ -1,15 +1,14 @@
 -- The first of each rank: what a list of waits has as the first of a rank, and what is kept of that.
-use Rattle.std.proofs.Common.{◌≡◌, ◌≢◌, ℕ, zero, suc, ◌+◌, ◌<◌, ◌≤◌, ◌⊎◌, inl, inr, Bool, true, false, not, ◌&&◌, ◌||◌, cond, eqb, ltb, Option, Some, None, is_some, option_map, List, [], ◌∷◌, ◌++◌, length, set, get_or, drop, map, filter, find, All, refl, sym, ap, subst, ◌∙◌, arith}
+use Rattle.std.proofs.Common.{◌≡◌, ℕ, zero, suc, ◌+◌, ◌<◌, Bool, true, false, not, ◌&&◌, ◌||◌, cond, eqb, ltb, Option, Some, None, is_some, option_map, List, [], ◌∷◌, ◌++◌, length, set, get_or, drop, map, filter, find, refl, sym, ap, subst, ◌∙◌, arith}
 use Rattle.std.specs.List.{list_any}
 use Rattle.std.specs.Option.{option_or}
 use Rattle.std.proofs.lemmas.Option.{same_Some}
-use Rattle.std.proofs.lemmas.Bool.{cases_eq, cases_Bool, cases_lt, eqb-true, eq-eqb, ne_eqb}
-use Rattle.std.proofs.lemmas.List.Elements.{All-nil, All-cons, All-head, All-tail}
+use Rattle.std.proofs.lemmas.Bool.{eqb-true, eq-eqb}
 use Rattle.zk_base.specs.declared.slots.Slot.{Slot}
 use Rattle.zk_base.specs.declared.leaders.First.{First}
 use Rattle.zk_base.specs.Order.{put_by}
-use Rattle.zk_base.specs.Slots.{Rises, place_of, is_waiting, waits_as, leads, is_of, first_of, led, moved_to, replaced, passed_on}
-use Rattle.zk_base.proofs.Risen.{rest, front, above}
+use Rattle.zk_base.specs.Slots.{Rises, place_of, is_waiting, waits_as, leads, is_of, first_of, led, moved_to, replaced}
+use Rattle.zk_base.proofs.Risen.{rest, front}
 
 same-rank : (a b : ℕ) → eqb a b ≡ true → eqb b a ≡ true
 same-rank a b is = eq-eqb b a (sym (eqb-true a b is))

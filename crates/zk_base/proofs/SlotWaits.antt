@@ -1,14 +1,14 @@
 -- What a list of kept waits says of who waits and of what is decided, and how that changes.
-use Rattle.std.proofs.Common.{◌≡◌, ◌≢◌, ℕ, zero, suc, ◌+◌, ◌<◌, ◌≤◌, ◌⊎◌, inl, inr, ℤ, Bool, true, false, not, ◌&&◌, ◌||◌, cond, eqb, ltb, leb, Option, Some, None, is_some, option_map, List, [], ◌∷◌, ◌++◌, length, set, get_or, map, filter, filter_map, find, slice_get, drop, All, refl, sym, ap, subst, ◌∙◌, arith}
+use Rattle.std.proofs.Common.{◌≡◌, ℕ, suc, ◌+◌, ◌<◌, ◌≤◌, ◌⊎◌, inl, inr, ℤ, Bool, true, false, not, ◌&&◌, ◌||◌, cond, eqb, ltb, Option, Some, None, is_some, option_map, List, [], ◌∷◌, ◌++◌, length, map, filter, filter_map, find, slice_get, drop, All, refl, sym, ap, subst, ◌∙◌, arith}
 use Rattle.std.specs.Prelude.{int_lt}
 use Rattle.std.specs.Cmp.{first_so, second_so}
 use Rattle.std.specs.List.{list_any, cons_option}
 use Rattle.std.proofs.lemmas.Int.{ints}
 use Rattle.std.proofs.lemmas.Option.{same_Some}
 use Rattle.std.proofs.lemmas.Bool.Decides.{nat_tests}
-use Rattle.std.proofs.lemmas.Bool.{cases_lt, cases_eq, eqb-true, eq-eqb, ne_eqb, lt-ltb, le-ltb, lt-leb, le-leb}
+use Rattle.std.proofs.lemmas.Bool.{cases_lt, cases_eq, eqb-true, eq-eqb, ne_eqb, lt-ltb, le-ltb}
 use Rattle.std.proofs.lemmas.List.{append-nil, length-map}
-use Rattle.std.proofs.lemmas.List.Elements.{All-nil, All-cons, All-head, All-tail, All-weaker, All-filter, All-map, filter-append, filter_passes, filter_map-append}
+use Rattle.std.proofs.lemmas.List.Elements.{All-nil, All-cons, All-head, All-tail, All-weaker, All-filter, filter-append, filter_passes, filter_map-append}
 use Rattle.zk_base.specs.declared.waits.Waiter.{Waiter}
 use Rattle.zk_base.specs.declared.waits.Decision.{Decision}
 use Rattle.zk_base.specs.declared.slots.Slot.{Slot}
@@ -16,9 +16,9 @@ use Rattle.zk_base.specs.declared.slots.Stage.{Stage}
 use Rattle.zk_base.specs.declared.slots.Stage.TheVariants.{Waits, Decided, Ended}
 use Rattle.zk_base.specs.Lists.{put_before, without_first}
 use Rattle.zk_base.specs.Order.{put_by, put_all_by, by_key, Ascends}
-use Rattle.zk_base.specs.Waits.{Waits as AllWaits, is_served_after, is_waiter, is_decision, decide, decision_of, goes_on, joined, left, ended, quitted, quit_answer, all_decided, first_decided, open_waits}
-use Rattle.zk_base.specs.Slots.{IsPriority, rank_of, Rises, place_of, goes_on_at, is_open_at, answer_at, is_waiting, is_open, has_answer, decision_in, answer_for, waits_for, IsRanked, over, decided_as, decided_all, line, told, waits_in, waits_as, leads}
-use Rattle.zk_base.proofs.Order.{put_by-below, Ascends-put_by, by_key-snoc, All-by_key, length-by_key, map-by_key, filter-by_key, by_key-ascending, find-filter, filter_all, filter_none}
+use Rattle.zk_base.specs.Waits.{Waits as AllWaits, is_served_after, is_waiter, is_decision, decide, decision_of, goes_on, joined, left, ended, all_decided, first_decided}
+use Rattle.zk_base.specs.Slots.{IsPriority, rank_of, place_of, goes_on_at, is_open_at, answer_at, is_waiting, is_open, has_answer, decision_in, answer_for, IsRanked, over, decided_as, decided_all, line, told, waits_in, waits_as, leads}
+use Rattle.zk_base.proofs.Order.{Ascends-put_by, by_key-snoc, All-by_key, length-by_key, map-by_key, filter-by_key, by_key-ascending, find-filter, filter_all, filter_none}
 use Rattle.zk_base.proofs.SlotLists.{all-of-filter, filters-swap, filter-weaker, filter-not, found-passes, found-alone, ascending-parts, Ascends-same, find-through, without-through, without-absent, map-some}
 
 -- priorities and their ranks

@@ -1,10 +1,10 @@
 -- What is kept of waits stays true under each change.
-use Rattle.std.proofs.Common.{◌≡◌, ◌≢◌, ℕ, zero, suc, ◌+◌, ◌-◌, ◌<◌, ◌≤◌, ◌⊎◌, inl, inr, Bool, true, false, not, ◌&&◌, ◌||◌, cond, eqb, ltb, Option, Some, None, is_some, option_map, List, [], ◌∷◌, ◌++◌, length, set, get_or, take, drop, map, filter, find, slice_get, All, AllPairs, refl, sym, ap, subst, ◌∙◌, arith}
+use Rattle.std.proofs.Common.{◌≡◌, ◌≢◌, ℕ, zero, suc, ◌+◌, ◌-◌, ◌<◌, ◌≤◌, ◌⊎◌, inl, inr, Bool, true, false, not, ◌&&◌, ◌||◌, cond, eqb, Option, Some, None, is_some, option_map, List, [], ◌∷◌, ◌++◌, length, set, get_or, take, drop, map, filter, find, slice_get, All, refl, sym, ap, subst, ◌∙◌, arith}
 use Rattle.std.specs.Option.{option_or, option_map_or}
 use Rattle.std.proofs.lemmas.Option.{same_Some}
 use Rattle.std.proofs.lemmas.Bool.{cases_eq, cases_lt, eqb-true, eq-eqb, ne_eqb, lt-ltb, le-ltb}
 use Rattle.std.proofs.lemmas.List.{length-append, length-set, length-map}
-use Rattle.std.proofs.lemmas.List.Elements.{All-nil, All-cons, All-head, All-tail, All-weaker, All-filter, All-map, All-push, All-set, All-get_or, filter-append, filter_passes}
+use Rattle.std.proofs.lemmas.List.Elements.{All-nil, All-cons, All-head, All-tail, All-weaker, All-filter, All-map, All-push, All-set, All-get_or, filter-append}
 use Rattle.std.proofs.lemmas.List.Kept.{AllPairs-filter}
 use Rattle.std.specs.List.{list_any, remove}
 use Rattle.zk_base.specs.declared.slots.Slot.{Slot}
@@ -15,10 +15,10 @@ use Rattle.zk_base.specs.Order.{put_by, by_key}
 use Rattle.zk_base.specs.Waits.{open_waits}
 use Rattle.zk_base.specs.Slots.{Rises, place_of, goes_on_at, is_open_at, answer_at, is_waiting, is_open, has_answer, answer_for, IsRanked, over, decided_as, decided_all, line, waits_in, waits_as, leads, is_of, first_of, led, moved_to, replaced, passed_on, IsKept}
 use Rattle.zk_base.proofs.Firsts.{All-found}
-use Rattle.zk_base.proofs.Order.{filter_none, All-put_by, find-filter}
+use Rattle.zk_base.proofs.Order.{All-put_by, find-filter}
 use Rattle.zk_base.proofs.SlotLists.{find-weaker, found-passes, found-alone}
 use Rattle.zk_base.proofs.SlotWaits.{waiting-open, told-open, length-waiting, length-decided, none-waits, first-line}
-use Rattle.zk_base.proofs.Leading.{first_of-led, first_of-replaced, leads-push, leads-kept, leads-next, any-first}
+use Rattle.zk_base.proofs.Leading.{first_of-led, first_of-replaced, leads-push, leads-kept, leads-next}
 use Rattle.zk_base.proofs.Risen.{rest, above, Rises-push, Rises-cons, Rises-map, set-map, remove-filter, alone-at}
 
 abbrev pub one : Bool → ℕ

@@ -1,4 +1,4 @@
-ghost use Rattle.std.specs.Prelude.{◌≡◌, ◌≢◌, ◌⊎◌, ◌+◌, ◌<◌, ◌≤◌, Bool, filter, drop, length, map, vec_len, vec_capacity, get_or, All, HoldsAt, IfSome, IfNone};
+ghost use Rattle.std.specs.Prelude.{◌≡◌, ◌≢◌, ◌⊎◌, ◌+◌, ◌<◌, ◌≤◌, filter, drop, length, map, vec_len, vec_capacity, All, HoldsAt, IfSome, IfNone};
 ghost use Rattle.zk_base.specs.Slots.{IsPriority, rank_of, place_of, Rises, is_waiting, is_open, over, decided_as, decided_all, answer_for, waits_for, waits_as, leads, passed_on};
 
 use crate::Who;

@@ -1,4 +1,4 @@
-ghost use Rattle.std.specs.Prelude.{◌≡◌, ◌+◌, ◌^◌, ◌-◌, ◌≤◌, ◌<◌, Bool, false, is_some, length, IsOk, IfOk, IfSome, IfNone, OnOk, OnErr, slice_get};
+ghost use Rattle.std.specs.Prelude.{◌≡◌, ◌+◌, ◌^◌, ◌-◌, ◌≤◌, ◌<◌, false, is_some, length, IsOk, IfOk, IfNone, OnOk, OnErr, slice_get};
 ghost use Rattle.zk_base.specs.Waits.{no_waits, decision_of, goes_on, open_waits, joined, left, first_decided, all_decided, ended, quitted, quit_answer};
 
 use crate::leaders::{First, lead};

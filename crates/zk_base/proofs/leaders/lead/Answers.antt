@@ -1,4 +1,4 @@
-use Rattle.std.proofs.Common.{ℕ, List, ltb, cond, ap, sym, subst, ◌∙◌}
+use Rattle.std.proofs.Common.{ltb, cond, ap, sym, ◌∙◌}
 use Rattle.std.specs.List.{insert, list_any, position_or_len}
 use Rattle.zk_base.specs.declared.leaders.First.{First}
 use Rattle.zk_base.specs.Order.{put_by}

@@ -1,4 +1,4 @@
-use Rattle.std.proofs.Common.{inl, inr, refl, ◌≡◌, filter, rules}
+use Rattle.std.proofs.Common.{inr, refl, ◌≡◌, filter, rules}
 use Rattle.std.proofs.lemmas.Fn.{filter_same}
 use Rattle.zk_base.specs.Slots.{is_open}
 use Rattle.zk_base.proofs.slots.close_up.Goals as goal

@@ -1,8 +1,8 @@
-use Rattle.std.proofs.Common.{◌≡◌, ◌≢◌, ◌<◌, ◌+◌, ℕ, Option, Some, None, List, All, set, get_or, drop, length, map, filter, refl, sym, ap, subst, ◌∙◌, arith}
+use Rattle.std.proofs.Common.{◌≡◌, ◌≢◌, ◌<◌, ◌+◌, ℕ, Option, Some, None, List, All, set, get_or, drop, length, sym, ap, subst, ◌∙◌}
 use Rattle.std.proofs.lemmas.List.{get_or_default, take_rest}
 use Rattle.zk_base.specs.declared.slots.Slot.{Slot}
 use Rattle.zk_base.specs.declared.leaders.First.{First}
-use Rattle.zk_base.specs.Slots.{place_of, leads, passed_on, replaced}
+use Rattle.zk_base.specs.Slots.{place_of, leads, passed_on}
 use Rattle.zk_base.proofs.SlotsKept.{passed-none, passed-other, passed-set, passed-remove}
 use Rattle.zk_base.proofs.slots.pass_on.Goals as goal
 

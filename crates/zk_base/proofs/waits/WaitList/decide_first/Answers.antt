@@ -1,11 +1,11 @@
-use Rattle.std.proofs.Common.{◌≡◌, ◌≢◌, ◌+◌, ◌-◌, ◌<◌, ◌≤◌, ℕ, List, [], ◌∷◌, All, length, set, get_or, drop, map, cond, eqb, sym, ap, subst, refl, ◌∙◌, arith, rules}
+use Rattle.std.proofs.Common.{◌≡◌, ◌≢◌, ◌+◌, ◌-◌, ◌<◌, ◌≤◌, ℕ, List, All, length, set, get_or, drop, sym, ap, subst, ◌∙◌, arith, rules}
 use Rattle.std.proofs.lemmas.List.Elements.{All-weaker}
 use Rattle.std.proofs.lemmas.List.{length-set}
 use Rattle.zk_base.specs.declared.slots.Slot.{Slot}
 use Rattle.zk_base.specs.declared.leaders.First.{First}
-use Rattle.zk_base.specs.Waits.{Waits, first_decided, open_waits}
+use Rattle.zk_base.specs.Waits.{first_decided, open_waits}
 use Rattle.zk_base.specs.Waits.{WaitView}
-use Rattle.zk_base.specs.Slots.{place_of, Rises, line, told, waits_in, decided_as, leads, passed_on, IsKept}
+use Rattle.zk_base.specs.Slots.{place_of, Rises, waits_in, decided_as, leads, passed_on, IsKept}
 use Rattle.zk_base.proofs.Risen.{alone-at, set-map}
 use Rattle.zk_base.proofs.SlotWaits.{waits-first, waits-empty}
 use Rattle.zk_base.proofs.SlotsKept.{more_than_none, at_index, no-items, kept-empty, first-there, first-served, some-waits, kept-decided, open-is}

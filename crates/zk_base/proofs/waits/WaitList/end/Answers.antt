@@ -1,9 +1,9 @@
-use Rattle.std.proofs.Common.{◌≡◌, ◌≢◌, ◌+◌, ◌<◌, ◌≤◌, ◌⊎◌, inl, inr, ℕ, Option, Some, None, List, All, length, set, get_or, filter, map, refl, sym, ap, subst, ◌∙◌, arith, rules}
+use Rattle.std.proofs.Common.{◌≡◌, ◌≢◌, ◌+◌, ◌<◌, ◌⊎◌, List, All, length, set, get_or, filter, sym, ap, subst, ◌∙◌, arith}
 use Rattle.std.proofs.lemmas.List.{length-set, get_or_default}
 use Rattle.zk_base.specs.declared.slots.Slot.{Slot}
 use Rattle.zk_base.specs.Waits.{decision_of, ended, open_waits}
 use Rattle.zk_base.specs.Waits.{WaitView}
-use Rattle.zk_base.specs.Slots.{place_of, waits_in, answer_for, is_open, over, IsKept}
+use Rattle.zk_base.specs.Slots.{place_of, waits_in, answer_for, is_open, over}
 use Rattle.zk_base.proofs.Risen.{alone-at, nothing-at, set-map}
 use Rattle.zk_base.proofs.SlotWaits.{decision-at, decision-nowhere, waits-ended, waits-closed, ended-none}
 use Rattle.zk_base.proofs.SlotsKept.{answered, kept-ended, kept-closed, open-is}

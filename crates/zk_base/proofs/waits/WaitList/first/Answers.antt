@@ -1,9 +1,8 @@
-use Rattle.std.proofs.Common.{◌≡◌, ◌≢◌, ◌<◌, ℕ, List, Option, Some, None, [], All, length, get_or, map, slice_get, sym, ap, subst, ◌∙◌, arith, rules}
-use Rattle.zk_base.specs.declared.waits.Waiter.{Waiter}
+use Rattle.std.proofs.Common.{◌≡◌, ◌≢◌, ◌<◌, ℕ, List, Some, All, length, get_or, map, slice_get, sym, ap, subst, ◌∙◌, arith, rules}
 use Rattle.zk_base.specs.declared.slots.Slot.{Slot}
 use Rattle.zk_base.specs.declared.leaders.First.{First}
 use Rattle.zk_base.specs.Waits.{WaitView}
-use Rattle.zk_base.specs.Slots.{place_of, line}
+use Rattle.zk_base.specs.Slots.{place_of}
 use Rattle.zk_base.proofs.SlotsKept.{no-items, kept-empty, first-there, first-served}
 use Rattle.zk_base.proofs.waits.WaitList.first.Goals as goal
 
