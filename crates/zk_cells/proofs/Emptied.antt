@@ -1,5 +1,5 @@
 -- What came out of the signals of a kernel.
-use Rattle.std.proofs.Common.{◌≡◌, ℕ, suc, ◌*◌, ◌<◌, ◌≤◌, Option, Some, None, List, [], ◌∷◌, length, map, get_or, true, eqb, All, refl, sym, ap, subst, ◌∙◌, arith}
+use Rattle.std.proofs.Common.{◌≡◌, ℕ, suc, ◌*◌, ◌≤◌, Option, Some, None, List, [], ◌∷◌, length, map, get_or, true, eqb, All, refl, sym, ap, subst, ◌∙◌, arith}
 use Rattle.std.proofs.lemmas.List.{length-map}
 use Rattle.std.proofs.lemmas.List.Elements.{All-nil, All-cons, All-map, All-filter, All-contains, Contains-get_or}
 use Rattle.std.proofs.lemmas.List.Sorted.{All-permutation, length_permutation}
@@ -89,7 +89,7 @@ by-played own found ws (Some s ∷ ss) (Some x ∷ xs) all by =
 module _ (k : Cells) (p : Passes) where
   -- the passes are all players'
   abbrev Stands : Type 0
-  Stands = (ws : List Who) × (found : ℕ → List Seen) × AreFor k ws p × HaveShared (numbers_of ws) (left_at p.notes.items) found k.signals.items p.signals.items × AreWhole k (length ws) × (length ws < 256)
+  Stands = (ws : List Who) × (found : ℕ → List Seen) × AreFor k ws p × HaveShared (numbers_of ws) (left_at p.notes.items) found k.signals.items p.signals.items × AreWhole k (length ws) × (length ws ≤ 256)
 
   -- the signals were played, whatever the passes stand for
   abbrev Plays : List (Option Played) → Type 0
@@ -102,7 +102,7 @@ module _ (k : Cells) (p : Passes) where
 
   -- they stand for all players that the signals were made for
   pub all-of-signals : (ns : List Note) → ns ≡ p.notes.items → Stands →
-      (ms : List ℕ) × (found : ℕ → List Seen) × HaveShared ms (left_at ns) found k.signals.items p.signals.items × All (IsSharedBy (length ms)) k.signals.items × (length ms < 256)
+      (ms : List ℕ) × (found : ℕ → List Seen) × HaveShared ms (left_at ns) found k.signals.items p.signals.items × All (IsSharedBy (length ms)) k.signals.items × (length ms ≤ 256)
   all-of-signals ns same all =
       let ms = numbers_of all.0 in
       let long : length ms ≡ length all.0 = length-map all.0 (λ (w : Who). w.number) in

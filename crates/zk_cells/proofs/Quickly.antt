@@ -14,7 +14,6 @@ use Rattle.zk_model_work.specs.declared.ops.WorkOp.{WorkOp}
 use Rattle.zk_model_work.specs.declared.ops.WorkReply.{WorkReply}
 use Rattle.zk_model_work.specs.Machine.{work_machine}
 use Rattle.zk_model_work.specs.State.{State}
-use Rattle.zk_scenario.specs.declared.scenario.TheConstants.{MOST_STEPS}
 use Rattle.zk_signal.specs.declared.pass.SigPass.{SigPass}
 use Rattle.zk_turn.specs.declared.pass.Pass.{Pass}
 use Rattle.zk_work.specs.declared.work.Work.{Work}
@@ -40,7 +39,7 @@ use Rattle.zk_cells.proofs.SignalLooks.{attempted-look, elsewhere-look, found-cl
 
 -- they serve their player still
 pub served-quick : (k : Cells) (p : Passes) (who : Who) (signals : Vec (Option SigPass) Global) (notes : Vec Note Global) → IsServed k p who → HaveOwn who (writes_at notes.items) k.signals.items signals.items →
-    AreNoted who notes.items (signals_by (writes_at notes.items) signals.items) → MOST_STEPS ≤ vec_capacity notes → IsServed k (record p { signals = signals; notes = notes }) who
+    AreNoted who notes.items (signals_by (writes_at notes.items) signals.items) → k.most ≤ vec_capacity notes → IsServed k (record p { signals = signals; notes = notes }) who
 served-quick k p who signals notes served have noted capacity = record {
   work = served.work;
   clock = served.clock;
@@ -102,7 +101,7 @@ module _ (k : Cells) (p : Passes) (who : Who) (number object : ℕ) (op : Signal
       (elsewhere-write (cells_machines k) who number object op stamp (desk_shown p) k.signals.items p.signals.items p.notes.items refl served.number served.signals
       wrote.used.signal wrote.used.before wrote.used.after wrote.used.there wrote.used.was wrote.made))
 
-  pub served-write : IsLater (desk_shown p) who.number number → MOST_STEPS ≤ vec_capacity notes → IsServed k written who
+  pub served-write : IsLater (desk_shown p) who.number number → k.most ≤ vec_capacity notes → IsServed k written who
   served-write later capacity = served-quick k p who signals notes served
       (on-lists (λ ps ns. HaveOwn who (writes_at ns) k.signals.items ps)
       (have-write (cells_machines k) who number object op stamp (desk_shown p) k.signals.items p.signals.items p.notes.items refl served.number served.signals

@@ -1,6 +1,6 @@
 -- Inner: no contract of a top call is made of this file.
 -- New passes: those that no caller has yet, and those that a caller gets of them.
-use Rattle.std.specs.Prelude.{◌≡◌, ◌≤◌, Option, Some, None, List, [], ◌∷◌, ◌++◌, Vec, All, map, vec_capacity}
+use Rattle.std.specs.Prelude.{◌≡◌, ℕ, ◌≤◌, Option, Some, None, List, [], ◌∷◌, ◌++◌, Vec, All, map, vec_capacity}
 use Rattle.std.specs.declared.alloc.Global.{Global}
 use Rattle.std.specs.List.{AllZip}
 use Rattle.zk_base.specs.declared.ids.Who.{Who}
@@ -21,7 +21,6 @@ use Rattle.zk_msgq.specs.Seen.{msgq_start, msgq_history}
 use Rattle.zk_objects.specs.Seen.{objects_start, objects_history}
 use Rattle.zk_base.specs.RecordedView.{RecordedView}
 use Rattle.zk_poll.specs.Seen.{signal_start}
-use Rattle.zk_scenario.specs.declared.scenario.TheConstants.{MOST_STEPS}
 use Rattle.zk_signal.specs.declared.pass.SigPass.{SigPass}
 use Rattle.zk_signal.specs.declared.signal.SharedSignal.{SharedSignal}
 use Rattle.zk_signal.specs.Passes as shared
@@ -130,8 +129,8 @@ pub record AreUndealt (c : Cells) (ws : List Who) (u : Undealt) : Type 0 where
   pub chans : AllLeft (IsLegal chan_machine) chan_start ws c.chans.items u.chans.items
   pub observers : AllLeft (IsLegal obs_machine) obs_start ws c.observers.items u.observers.items
 
--- the last pass of each service was taken out, and no look and no write is noted
-pub record IsDealt (old : Undealt) (p : Passes) (new : Undealt) : Type 0 where
+-- the last pass of each service was taken out, and no look and no write is noted, with room for so many
+pub record IsDealt (most : ℕ) (old : Undealt) (p : Passes) (new : Undealt) : Type 0 where
   pub work : IsTaken old.work p.work new.work
   pub clock : IsTaken old.clock p.clock new.clock
   pub table : IsTaken old.table p.table new.table
@@ -142,7 +141,7 @@ pub record IsDealt (old : Undealt) (p : Passes) (new : Undealt) : Type 0 where
   pub observers : AllTaken old.observers.items p.observers.items new.observers.items
   pub looked : p.looked ≡ 0
   pub notes : p.notes.items ≡ []
-  pub capacity : MOST_STEPS ≤ vec_capacity p.notes
+  pub capacity : most ≤ vec_capacity p.notes
 
 -- the passes are new ones of this player, one of each service, with room for its writes at signals, of which there is none,
 -- as there is no look at an item
@@ -157,7 +156,7 @@ pub record AreNew (c : Cells) (who : Who) (p : Passes) : Type 0 where
   pub observers : AllNew (IsLegal obs_machine) obs_start who c.observers.items p.observers.items
   pub looked : p.looked ≡ 0
   pub notes : p.notes.items ≡ []
-  pub capacity : MOST_STEPS ≤ vec_capacity p.notes
+  pub capacity : c.most ≤ vec_capacity p.notes
 
 -- there are such passes
 abbrev pub HasNew : Cells → Who → Option Passes → Type 0

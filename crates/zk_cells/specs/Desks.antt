@@ -18,7 +18,6 @@ use Rattle.zk_subq.specs.Seen.{obs_start}
 use Rattle.zk_time.specs.ClockSeen.{clock_start}
 use Rattle.zk_work.specs.Seen.{work_start}
 use Rattle.zk_work.specs.Words.{most_items}
-use Rattle.zk_scenario.specs.declared.scenario.TheConstants.{MOST_STEPS}
 use Rattle.zk_turn.specs.Passes.{given_to}
 use Rattle.zk_worker.specs.declared.steps.Step.TheVariants as steps
 use Rattle.zk_worker.specs.Machines.{Machines}
@@ -31,12 +30,13 @@ use Rattle.zk_cells.specs.Rows.{family, seen_all, holds_in, AreSeats}
 use Rattle.zk_cells.specs.Notes.{writes_at}
 use Rattle.zk_cells.specs.Signals.{signal_family, signals_by, all_looks, looks_in, HaveOwn, AreNoted}
 
--- the machine of each service, and the state that it was made in
+-- the machine of each service, and the state that it was made in, with how many steps a player may make
 abbrev pub cells_machines : Cells → Machines
 cells_machines k = record {
   work = work_machine;
   work_start = work_start (given_to k.work);
   items = k.items.items;
+  most = k.most;
   clock = clock_machine;
   clock_start = clock_start (given_to k.clock);
   table = table_machine;
@@ -60,7 +60,7 @@ pub record IsServed (k : Cells) (p : Passes) (who : Who) : Type 0 where
   pub chans : AreSeats (IsLegal chan_machine) chan_start who k.chans.items p.chans.items
   pub observers : AreSeats (IsLegal obs_machine) obs_start who k.observers.items p.observers.items
   pub noted : AreNoted who p.notes.items (signals_by (writes_at p.notes.items) p.signals.items)
-  pub capacity : MOST_STEPS ≤ vec_capacity p.notes
+  pub capacity : k.most ≤ vec_capacity p.notes
   pub number : who.number < 2 ^ 32
   pub items : (work_start (given_to k.work)).items ≤ most_items
 

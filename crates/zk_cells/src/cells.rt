@@ -14,6 +14,8 @@ pub struct Cells {
     pub(crate) work: Cell<Work>,
     // The number of each item at the work service, by object number; an object of another kind has none.
     pub(crate) items: Vec<Option<u32>>,
+    // How many steps a player may make.
+    pub(crate) most: u32,
     pub(crate) clock: Cell<Clock>,
     pub(crate) table: Cell<Objects>,
     // Each semaphore, by object number; an object of another kind has none. The others likewise.

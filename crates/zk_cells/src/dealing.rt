@@ -1,13 +1,13 @@
 ghost use Rattle.std.specs.Prelude.{IfOk};
 ghost use Rattle.zk_cells.specs.Dealt.{AllTaken, IsDealt};
 
+use crate::cells::Cells;
 use crate::passes::Passes;
 use std::alloc::Global;
 use zk_base::{NoMemory, push_within};
 use zk_bus::Channel;
 use zk_msgq::Msgq;
 use zk_objects::Objects;
-use zk_scenario::MOST_STEPS;
 use zk_sem::Sem;
 use zk_signal::SigPass;
 use zk_subq::Observer;
@@ -41,9 +41,9 @@ fn deal_row<P: Drop>(alloc: Global, lists: &mut Vec<Vec<P>>) -> Result<Vec<Optio
     Ok(row)
 }
 
-/// Takes out the passes of the last player that has none.
-pub fn deal_passes(alloc: Global, undealt: &mut Undealt) -> Result<Passes, NoMemory>
-    ensures { IfOk result (λ passes. IsDealt undealt.old passes undealt.new) }
+/// Takes out the passes of these cells for the last player that has none.
+pub fn deal_passes(alloc: Global, cells: &Cells, undealt: &mut Undealt) -> Result<Passes, NoMemory>
+    ensures { IfOk result (λ passes. IsDealt cells.now.most undealt.old passes undealt.new) }
 {
     Ok(Passes {
         work: undealt.work.pop(),
@@ -55,6 +55,6 @@ pub fn deal_passes(alloc: Global, undealt: &mut Undealt) -> Result<Passes, NoMem
         signals: deal_row(alloc, &mut undealt.signals)?,
         chans: deal_row(alloc, &mut undealt.chans)?,
         observers: deal_row(alloc, &mut undealt.observers)?,
-        notes: Vec::with_capacity(alloc, MOST_STEPS as usize)?,
+        notes: Vec::with_capacity(alloc, cells.most as usize)?,
     })
 }

@@ -43,6 +43,7 @@ impl<'a, R: Wait> Services for Desk<'a, R> {
         requires served { IsServed self.old.cells.now self.old.passes who }
         requires range { is_in_range (cells_machines self.old.cells.now) step.now ≡ true }
         requires number { number < MOST_STEPS }
+        requires room { number < (cells_machines self.old.cells.now).most }
         requires later { IsLater (desk_shown self.old.passes) who.number number }
         ensures attempted { Attempted false (cells_machines self.old.cells.now) who number step.now
             (desk_shown self.old.passes) (desk_shown self.new.passes) result }

@@ -1,4 +1,4 @@
-ghost use Rattle.std.specs.Prelude.{◌≡◌, ◌<◌, ◌≤◌, ◌*◌, ℕ, true, List, length, IfOk, All};
+ghost use Rattle.std.specs.Prelude.{◌≡◌, ◌≤◌, ◌*◌, ℕ, true, List, length, IfOk, All};
 ghost use Rattle.zk_base.specs.Legal.{IsLegal};
 ghost use Rattle.zk_base.specs.declared.ids.Who.{Who};
 ghost use Rattle.zk_base.specs.declared.seen.Seen.{Seen};
@@ -72,7 +72,7 @@ fn empty_rows<S: Service>(
 pub fn empty_cells(alloc: Global, cells: Cells, all: Passes) -> Result<Plain, NoMemory>
     requires all { (ws : List Who) × (found : ℕ → List Seen) × AreFor cells ws all
         × HaveShared (numbers_of ws) (left_at all.notes.items) found cells.signals.items all.signals.items
-        × AreWhole cells (length ws) × (length ws < 256) }
+        × AreWhole cells (length ws) × (length ws ≤ 256) }
     requires steps { AreInStep all.notes.items }
     ensures machines { IfOk result (λ services. plain_machines services ≡ cells_machines cells) }
     ensures shown { IfOk result (λ services. plain_shown services ≡
@@ -90,6 +90,7 @@ pub fn empty_cells(alloc: Global, cells: Cells, all: Passes) -> Result<Plain, No
     Ok(Plain {
         work: empty_one(cells.work, all.work),
         items: cells.items,
+        most: cells.most,
         clock: empty_one(cells.clock, all.clock),
         table: empty_one(cells.table, all.table),
         sems: empty_rows(alloc, cells.sems, all.sems)?,

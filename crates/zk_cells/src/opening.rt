@@ -140,6 +140,7 @@ pub fn open_cells(
     let cells = Cells {
         work: work.0,
         items: services.items,
+        most: services.most,
         clock: clock.0,
         table: table.0,
         sems: sems.0,

@@ -1,4 +1,4 @@
-ghost use Rattle.std.specs.Prelude.{◌≡◌, ◌<◌, ℕ, length, map, List, All, IfOk};
+ghost use Rattle.std.specs.Prelude.{◌≡◌, ◌<◌, ◌≤◌, ℕ, length, map, List, All, IfOk};
 ghost use Rattle.zk_base.specs.History.{Rises};
 ghost use Rattle.zk_base.specs.Legal.{IsLegal};
 ghost use Rattle.zk_base.specs.Limits.{most_entries};
@@ -86,7 +86,7 @@ fn empty_signal(
     object: usize,
 ) -> Result<Option<Signal>, NoMemory>
     requires all { (numbers : List ℕ) × (looks : List Seen) × HasSharedIn numbers (left_at notes.now object) looks signal pass
-        × IsSharedBy (length numbers) signal × (length numbers < 256) }
+        × IsSharedBy (length numbers) signal × (length numbers ≤ 256) }
     requires steps { AreInStep notes.now }
     ensures { IfOk result (λ made. (numbers : List ℕ) (looks : List Seen) →
         HasSharedIn numbers (left_at notes.now object) looks signal pass →
@@ -111,7 +111,7 @@ pub fn empty_signals(
 ) -> Result<Vec<Option<Signal>>, NoMemory>
     requires all { (numbers : List ℕ) × (looks : ℕ → List Seen) ×
         HaveShared numbers (left_at notes.now) looks signals.items passes.items
-        × All (IsSharedBy (length numbers)) signals.items × (length numbers < 256) }
+        × All (IsSharedBy (length numbers)) signals.items × (length numbers ≤ 256) }
     requires steps { AreInStep notes.now }
     ensures { IfOk result (λ made. (numbers : List ℕ) (looks : ℕ → List Seen) →
         HaveShared numbers (left_at notes.now) looks signals.items passes.items →

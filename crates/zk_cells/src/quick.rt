@@ -48,6 +48,7 @@ pub fn quick_attempt(
     requires served { IsServed cells.now passes.old who }
     requires range { is_in_range (cells_machines cells.now) step.now ≡ true }
     requires number { number < MOST_STEPS }
+    requires room { number < cells.now.most }
     requires later { IsLater (desk_shown passes.old) who.number number }
     ensures attempted { Attempted false (cells_machines cells.now) who number step.now
         (desk_shown passes.old) (desk_shown passes.new) (Ok result) }

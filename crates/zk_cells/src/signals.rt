@@ -52,7 +52,7 @@ pub fn write_at(
     requires own { HaveOwn who (writes_at notes.old.items) signals.now passes.old.items }
     requires taken { takes_at (signal_family signals.now) object op ≡ true }
     requires few { length notes.old.items < MOST_STEPS }
-    requires room { MOST_STEPS ≤ vec_capacity notes.old }
+    requires room { length notes.old.items < vec_capacity notes.old }
     ensures wrote { WroteAmong signals.now object who step op result passes.old.items passes.new.items
         notes.old.items notes.new.items }
     ensures capacity { vec_capacity notes.old ≤ vec_capacity notes.new }

@@ -4,8 +4,7 @@ use Rattle.std.specs.Prelude.{IfOk}
 use Rattle.std.specs.List.{slice_get}
 use Rattle.zk_base.specs.declared.errors.NoMemory.{NoMemory}
 use Rattle.std.proofs.lemmas.Option.{slice_get_within}
-use Rattle.std.proofs.lemmas.Bool.{cases_lt}
-use Rattle.std.proofs.lemmas.Bool.Decides.{nat_tests}
+use Rattle.std.proofs.lemmas.Bool.{cases_lt, le-ltb, leb-true}
 use Rattle.std.proofs.lemmas.List.{length-set}
 use Rattle.zk_worker.proofs.Lists.{set-there}
 use Rattle.zk_scenario.specs.Content.{Content}
@@ -41,7 +40,7 @@ use Rattle.zk_cores.specs.Finished.{NoneOf, NoneGoesOn, IsRound}
 -- a player that has made all its steps has no attempt
 spent-none : (s : Content) (at : PlayerPlace) (shown : Shown) → is_spent_at s at ≡ true → chosen (machines_of s) s shown at ≡ None
 spent-none s at shown spent =
-    let full : nat_lt (length at.spots) (steps_of s) ≡ false = grind (arith, nat_tests) in
+    let full = le-ltb (length at.spots) (steps_of s) (leb-true (steps_of s) (length at.spots) spent) in
     ap (λ (b : Bool). first_possible (machines_of s) shown at.who (cond b (checks_first (next_check s at.mode at.passed at.frames) (frames_attempts s at.frames)) [])) full
 
 -- what a step of what is left did

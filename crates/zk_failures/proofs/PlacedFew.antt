@@ -11,6 +11,7 @@ use Rattle.zk_base.proofs.Order.{length-by_key}
 use Rattle.zk_scenario.specs.Content.{Content}
 use Rattle.zk_scenario.specs.Steps.{steps_of}
 use Rattle.zk_scenario.specs.Valid.{IsValid}
+use Rattle.zk_scenario.proofs.Steps.{steps-most}
 use Rattle.zk_scenario.proofs.Valid.{length-players}
 use Rattle.zk_worker.specs.Shown.{AreShort}
 use Rattle.zk_trace.specs.declared.looks.SignalLook.{SignalLook}
@@ -94,6 +95,7 @@ module _ (s : Content) (t : Trace) (form : IsInForm s t) (placed : IsPlaced s t)
       let few = placed-few in
       let players : length t.logs ≤ most_players = let known = logs-long s t form in let same = length-players s.decls in let most = valid.players in omega arith in
       let all : length t.logs * steps_of s ≤ most_players * steps_of s = mul-le-mul_right (steps_of s) players in
+      let each = steps-most s in
       omega arith
 
 -- what is shorter than so many has parts that are

@@ -2,6 +2,7 @@ ghost use Rattle.std.specs.Prelude.{◌≡◌, ◌↔◌, ℕ, Some, [], IsTrue,
 ghost use Rattle.zk_worker.specs.declared.steps.Step.{Step};
 ghost use Rattle.zk_worker.specs.Follows.{StepMade, Stands, log_of, state_at};
 ghost use Rattle.zk_worker.specs.Protocol.{IsAhead, start_at};
+ghost use Rattle.zk_worker.specs.Ranges.{HasRoomIn};
 ghost use Rattle.zk_trace.specs.declared.stood.Stood.{Stood};
 ghost use Rattle.zk_trace.specs.declared.trace.Trace.{Trace};
 ghost use Rattle.zk_trace.specs.Form.{IsInForm};
@@ -82,6 +83,7 @@ fn astray(
     log: &Log,
     player: &mut Player,
 ) -> Result<Option<usize>, NoMemory>
+    requires { HasRoomIn scenario.now player.old }
     ensures { IfOk result (λ step. (number : ℕ) →
         slice_get trace.now.logs number ≡ Some log.now → start_at scenario.now number ≡ Some player.old →
         MatchOption step (IsLed scenario.now trace.now number log.now (length log.now.steps) player.new)

@@ -2,7 +2,7 @@
 use Rattle.std.proofs.Common.{◌≡◌, ℕ, Bool, true, false, cond, nat_lt, Some, Ok, Err, Result, List, [], length, set, refl, sym, ap, subst, ◌∙◌, arith}
 use Rattle.std.specs.Prelude.{IfOk, OnErr}
 use Rattle.std.specs.List.{slice_get}
-use Rattle.std.proofs.lemmas.Bool.Decides.{nat_tests}
+use Rattle.std.proofs.lemmas.Bool.{lt-leb, ltb-true}
 use Rattle.zk_worker.proofs.Lists.{set-there}
 use Rattle.zk_base.specs.declared.errors.NoMemory.{NoMemory}
 use Rattle.zk_scenario.specs.Content.{Content}
@@ -36,7 +36,7 @@ ahead-unspent s at step ahead = by (nat_lt (length at.spots) (steps_of s)) refl 
   where
     by : (b : Bool) → nat_lt (length at.spots) (steps_of s) ≡ b →
         slice_get (cond b (checks_first (next_check s at.mode at.passed at.frames) (frames_attempts s at.frames)) []) ahead.0 ≡ Some step → is_spent_at s at ≡ false
-    by true less there = grind (arith, nat_tests)
+    by true less there = lt-leb (steps_of s) (length at.spots) (ltb-true (length at.spots) (steps_of s) less)
     by false less there = absurd (cc)
 
 module _ (m : Machines) (s : Content) (at at' : PlayerPlace) (old new : Shown) (players : List PlayerPlace) (p : ℕ) where

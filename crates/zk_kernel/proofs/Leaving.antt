@@ -1,5 +1,5 @@
 -- From callers that were put together to what a kernel leaves.
-use Rattle.std.proofs.Common.{◌≡◌, ℕ, suc, ◌<◌, ◌*◌, Bool, true, false, ◌||◌, Some, None, Option, List, [], ◌∷◌, length, map, get_or, All, Contains, refl, sym, ap, subst, ◌∙◌, arith, eqb}
+use Rattle.std.proofs.Common.{◌≡◌, ℕ, suc, ◌≤◌, ◌*◌, Bool, true, false, ◌||◌, Some, None, Option, List, [], ◌∷◌, length, map, get_or, All, Contains, refl, sym, ap, subst, ◌∙◌, arith, eqb}
 use Rattle.std.specs.List.{slice_get}
 use Rattle.std.specs.Option.{option_map, option_and_then}
 use Rattle.std.proofs.lemmas.Bool.{eqb-true}
@@ -139,13 +139,13 @@ whole-all k cs callers same made callers-all =
 
 -- and there are few of them
 pub stands-all : (k : Shared) (cs : Cells) (callers : List Caller) (all : Passes) → cs ≡ k.cells → IsMadeFor k.cells k.scenario → AreInOrder k callers → AreGathered k.cells callers all →
-    (ws : List Who) × (found : ℕ → List Seen) × AreFor cs ws all × HaveShared (numbers_of ws) (left_at all.notes.items) found cs.signals.items all.signals.items × AreWhole cs (length ws) × (length ws < 256)
+    (ws : List Who) × (found : ℕ → List Seen) × AreFor cs ws all × HaveShared (numbers_of ws) (left_at all.notes.items) found cs.signals.items all.signals.items × AreWhole cs (length ws) × (length ws ≤ 256)
 stands-all k cs callers all same made callers-all gathered =
     let ws = players_of callers in
     let long : length ws ≡ length (scenario.players k.scenario.decls) = long-players callers ∙ callers-all.all in
     let known = length-players k.scenario.decls in
     let most = made.valid.players in
-    let few : length ws < 256 = omega arith in
+    let few : length ws ≤ 256 = omega arith in
     (ws, all_found callers, for-all k cs callers all same gathered, shared-all k cs callers all same gathered, whole-all k cs callers same made callers-all, few)
 
 -- their notes are in step

@@ -198,7 +198,7 @@ whos-whole s at ws are =
 
 -- what is left once the last player's passes were taken out
 pub undealt-taken : (c : Cells) (ws : List Who) (w : Who) (old : Undealt) (p : Passes) (new : Undealt) →
-    AreUndealt c (ws ++ w ∷ []) old → IsDealt old p new → AreUndealt c ws new
+    AreUndealt c (ws ++ w ∷ []) old → IsDealt c.most old p new → AreUndealt c ws new
 undealt-taken c ws w old p new left taken = record {
   work = (left-taken (IsLegal work_machine) work_start ws w (Some c.work) old.work p.work new.work left.work taken.work).0;
   clock = (left-taken (IsLegal clock_machine) clock_start ws w (Some c.clock) old.clock p.clock new.clock left.clock taken.clock).0;
@@ -212,7 +212,7 @@ undealt-taken c ws w old p new left taken = record {
 
 -- they are new ones of this player
 pub new-taken : (c : Cells) (ws : List Who) (w : Who) (old : Undealt) (p : Passes) (new : Undealt) →
-    AreUndealt c (ws ++ w ∷ []) old → IsDealt old p new → AreNew c w p
+    AreUndealt c (ws ++ w ∷ []) old → IsDealt c.most old p new → AreNew c w p
 new-taken c ws w old p new left taken = record {
   work = (left-taken (IsLegal work_machine) work_start ws w (Some c.work) old.work p.work new.work left.work taken.work).1;
   clock = (left-taken (IsLegal clock_machine) clock_start ws w (Some c.clock) old.clock p.clock new.clock left.clock taken.clock).1;
@@ -229,7 +229,7 @@ new-taken c ws w old p new left taken = record {
 
 -- one caller more, before those of the players behind its player
 pub one-dealt : (k : Shared) (home : Snapshot Shared) (left all : List PlayerPlace) (at : PlayerPlace) (old : Undealt) (p : Passes) (new : Undealt)
-    (callers more : List Caller) → home.value ≡ k → all ≡ left ++ at ∷ [] → IsDealt old p new →
+    (callers more : List Caller) → home.value ≡ k → all ≡ left ++ at ∷ [] → IsDealt k.cells.most old p new →
     more ≡ callers ++ record { player = at; passes = Some p; stopped = false; kernel = home } ∷ [] →
     AreUndealt k.cells (whos all) old × All (IsUnplayed k) (reverse callers) →
     AreUndealt k.cells (whos left) new × All (IsUnplayed k) (reverse more)

@@ -25,7 +25,7 @@ pub fn deal_all(
 {
     let mut callers = Vec::with_capacity(alloc, players.len())?;
     while let Some(player) = players.pop() {
-        let passes = deal_passes(alloc, &mut undealt)?;
+        let passes = deal_passes(alloc, kernel.cells(), &mut undealt)?;
         push_within(
             &mut callers,
             Caller {

@@ -385,7 +385,7 @@ impl Cause {
             Cause::ObserverTwice => b"This observer stands there twice.",
             Cause::AllowedTwice => b"This is allowed already.",
             Cause::OtherName => b"A name can't stand where it does.",
-            Cause::ManyPlayers => b"Threads and queues together are 64 at most.",
+            Cause::ManyPlayers => b"Threads and queues together are 256 at most.",
             Cause::ManyQueues => b"Queues are 8 at most.",
             Cause::ManyItems => b"Items are 256 at most.",
             Cause::ManySems => b"Semaphores are 32 at most.",

@@ -46,6 +46,7 @@ returns-clause-machines c =
       work = work_machine;
       work_start = c.empty_one.ensures.start i;
       items = k.items.items;
+      most = k.most;
       clock = clock_machine;
       clock_start = c.empty_one-2.ensures.start i;
       table = table_machine;

@@ -22,6 +22,7 @@ returns-clause-machines c = λ i. record {
   work = work_machine;
   work_start = work_start (c.in_ok-work.ensures.given i);
   items = c.args.services.items.items;
+  most = c.args.services.most;
   clock = clock_machine;
   clock_start = clock_start (c.in_ok-clock.ensures.given i);
   table = table_machine;

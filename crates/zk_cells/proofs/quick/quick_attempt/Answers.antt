@@ -13,6 +13,13 @@ write_at-stamp-requires-clause-few c =
     let lt = c.requires.number in
     omega arith
 
+pub write_at-stamp-requires-clause-room : goal.write_at-stamp-requires-clause-room
+write_at-stamp-requires-clause-room c =
+    let n = few-noted c.args.who c.args.number (desk_shown c.args.passes.now) c.args.passes.now.notes.items c.requires.later c.requires.served.noted in
+    let lt = c.requires.room in
+    let was = c.requires.served.capacity in
+    omega arith
+
 pub returns-in-Signal-clause-attempted : goal.returns-in-Signal-clause-attempted
 returns-in-Signal-clause-attempted c =
     let w = c.write_at-stamp in

@@ -21,6 +21,9 @@ new-requires c =
     let below = c.loop-place-test.true in
     omega (arith, all, logs, below)
 
+pub astray-requires : goal.astray-requires
+astray-requires c = c.in_ok-player.ensures.fits.room
+
 pub unreachable-requires : goal.unreachable-requires
 unreachable-requires c =
     let s = c.args.scenario.now in

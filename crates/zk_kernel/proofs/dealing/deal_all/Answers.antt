@@ -1,4 +1,6 @@
-use Rattle.std.proofs.Common.{Some, false, arith}
+use Rattle.std.proofs.Common.{Some, false, subst, arith}
+use Rattle.zk_cells.specs.declared.cells.Cells.{Cells}
+use Rattle.zk_cells.specs.Dealt.{IsDealt}
 use Rattle.zk_kernel.proofs.NewCallers.{one-dealt, one-placed}
 use Rattle.zk_kernel.proofs.dealing.deal_all.Goals as goal
 
@@ -17,6 +19,6 @@ loop-player-preserved c =
           c.push_within.new.items.items split added l.invariant.players;
       new = λ undealt. one-dealt c.args.kernel.now c.of.result c.pop.new.self.items l.players.items c.in-Some.player l.undealt
           c.in_ok-passes.passes c.deal_passes.new.undealt l.callers.items c.push_within.new.items.items c.of.ensures split
-          c.in_ok-passes.ensures added (l.invariant.new undealt);
+          (subst (λ (cs : Cells). IsDealt cs.most l.undealt c.in_ok-passes.passes c.deal_passes.new.undealt) c.cells.ensures.cells c.in_ok-passes.ensures) added (l.invariant.new undealt);
       room = omega arith;
     }

@@ -1,12 +1,14 @@
-use Rattle.std.proofs.Common.{ℕ, false, length, Option, refl, sym, ap, subst, ◌∙◌}
+use Rattle.std.proofs.Common.{ℕ, false, length, Option, refl, sym, ap, subst, ◌∙◌, arith}
 use Rattle.zk_base.specs.declared.ids.Who.{Who}
 use Rattle.zk_scenario.specs.Content.{Content}
-use Rattle.zk_worker.specs.Machines.{machines_of}
+use Rattle.zk_scenario.specs.Steps.{steps_of}
+use Rattle.zk_worker.specs.Machines.{Machines, machines_of}
 use Rattle.zk_worker.specs.Places.{PlayerPlace}
 use Rattle.zk_worker.specs.Protocol.{after}
 use Rattle.zk_worker.specs.Shown.{IsLater}
 use Rattle.zk_worker.proofs.Between.{log-later}
 use Rattle.zk_worker.proofs.CheckedSteps.{after-spots}
+use Rattle.zk_worker.proofs.Limits.{ahead_left}
 use Rattle.zk_worker.proofs.Ranges.{ahead-takes}
 use Rattle.zk_worker.proofs.Trying.{attempted-some, attempted-none, attempted-err}
 use Rattle.zk_world.proofs.Players.{player-still, player-made}
@@ -43,6 +45,20 @@ attempt-reply-requires-clause-later g c =
     let shown = desk_shown c.in-Some.passes in
     subst (λ (n : ℕ). IsLater shown c.who.result.number n) (sym c.steps.ensures.count)
     (subst (λ (w : Who). IsLater shown w.number (length at.spots)) (sym c.who.ensures) (log-later at.who.number at.spots shown was.sound.log))
+
+pub attempt-reply-requires-clause-room : goal.attempt-reply-requires-clause-room
+attempt-reply-requires-clause-room g c =
+    let k = c.args.kernel.now in
+    let most = ap (λ (m : Machines). m.most) (ap cells_machines c.cells-cells.ensures.cells ∙ c.cells-cells.ensures.made.machines) in
+    let left = ahead_left k.scenario c.args.self.now.player c.args.step.now c.requires.ahead in
+    omega (arith, most, left, c.steps.ensures.count)
+
+pub made-requires-clause-room : goal.made-requires-clause-room
+made-requires-clause-room g c =
+    let k = c.args.kernel.now in
+    let at = c.args.self.now.player in
+    let was = subst (λ (o : Option Passes). IsAtDesk k.cells k.scenario at o) (sym c.take.ensures.value ∙ c.in-Some.is) c.requires.own.1 in
+    was.sound.fits.room ∙ ap steps_of (sym c.scenario.ensures.scenario)
 
 pub returns-in_err-reply-clause-own : goal.returns-in_err-reply-clause-own
 returns-in_err-reply-clause-own g c =
