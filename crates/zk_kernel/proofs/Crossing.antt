@@ -84,18 +84,21 @@ cells_part = struct_sync (shape cells.the_type) (
   (
     search (sendable, crosses) depth 20,
     (
-      search (cell_part, clock_send) depth 14,
+      search (sendable, crosses) depth 20,
       (
-        search (cell_part, table_send) depth 14,
+        search (cell_part, clock_send) depth 14,
         (
-          search (cell_sync, sem_send, sendable, crosses) depth 20,
+          search (cell_part, table_send) depth 14,
           (
-            search (cell_sync, msgq_send, sendable, crosses) depth 20,
+            search (cell_sync, sem_send, sendable, crosses) depth 20,
             (
-              search (shared_sync, sendable, crosses) depth 20,
+              search (cell_sync, msgq_send, sendable, crosses) depth 20,
               (
-                search (cell_sync, chan_send, sendable, crosses) depth 20,
-                (search (cell_sync, observer_send, sendable, crosses) depth 20, tt),
+                search (shared_sync, sendable, crosses) depth 20,
+                (
+                  search (cell_sync, chan_send, sendable, crosses) depth 20,
+                  (search (cell_sync, observer_send, sendable, crosses) depth 20, tt),
+                ),
               ),
             ),
           ),
