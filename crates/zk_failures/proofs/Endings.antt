@@ -103,6 +103,7 @@ module _ (s : Content) (t : Trace) where
   can-try valid placed legal players out number at there =
       let so = out.1 number at there in
       record {
+        room = refl;
         range = λ step ahead. ahead-takes s (machines_of s) at valid refl (followed-fits s valid t legal number at so.led) step ahead;
         log = subst (λ (n : ℕ). ShowsLog (trace_shown t) n at.spots) (sym (followed-number s number (trace_shown t) at so.led)) (shows-log number (log_of s at) placed so.logged);
       }

@@ -1,6 +1,7 @@
 -- Inner: no contract of a top call is made of this file.
 use Rattle.std.specs.Prelude.{◌≡◌, ℕ, Bool, true, false, None, Some, List, slice_get, length}
 use Rattle.zk_scenario.specs.Content.{Content}
+use Rattle.zk_scenario.specs.Steps.{steps_of}
 use Rattle.zk_worker.specs.declared.steps.Step.{Step}
 use Rattle.zk_worker.specs.Attempt.{is_in_range}
 use Rattle.zk_worker.specs.Choosing.{chosen}
@@ -9,8 +10,10 @@ use Rattle.zk_worker.specs.Places.{PlayerPlace}
 use Rattle.zk_worker.specs.Protocol.{IsAhead}
 use Rattle.zk_worker.specs.Shown.{Shown, ShowsLog}
 
--- a player's next attempts can be made where this is shown: they are in range, and of the player just its own steps are shown
+-- a player's next attempts can be made where this is shown: they are in range, and of the player just its own steps are shown.
+-- And the services have room for the steps that it may make
 pub record CanTry (m : Machines) (s : Content) (shown : Shown) (at : PlayerPlace) : Type 0 where
+  pub room : m.most ≡ steps_of s
   pub range : (step : Step) → IsAhead s at step → is_in_range m step ≡ true
   pub log : ShowsLog shown at.who.number at.spots
 

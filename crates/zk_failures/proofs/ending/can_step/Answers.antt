@@ -1,14 +1,15 @@
-use Rattle.std.proofs.Common.{◌≡◌, ℕ, ◌∙◌, true, Some, None, length, refl, sym, subst, below_more, arith}
+use Rattle.std.proofs.Common.{◌≡◌, ℕ, ◌∙◌, true, Some, None, length, refl, sym, ap, subst, below_more, arith}
 use Rattle.std.specs.List.{slice_get}
 use Rattle.std.proofs.lemmas.Option.{same_Some, slice_get_within}
 use Rattle.zk_base.specs.declared.ids.Who.{Who}
 use Rattle.zk_base.proofs.Lists.{none_from_is_some}
 use Rattle.zk_worker.specs.declared.steps.Step.{Step}
 use Rattle.zk_worker.specs.Attempt.{is_in_range, reply_in}
+use Rattle.zk_worker.specs.Machines.{Machines}
 use Rattle.zk_worker.specs.Protocol.{attempts}
 use Rattle.zk_worker.specs.Shown.{IsLater, ShowsLog}
 use Rattle.zk_worker.proofs.Between.{log-later}
-use Rattle.zk_worker.proofs.Limits.{attempts-few}
+use Rattle.zk_worker.proofs.Limits.{ahead_left, attempts-few}
 use Rattle.zk_worker.proofs.Trying.{attempted-some, attempted-none}
 use Rattle.zk_services.specs.Alone.{plain_machines, plain_shown}
 use Rattle.zk_line.proofs.Makes.{is_some-some}
@@ -40,6 +41,19 @@ attempt-requires-clause-range c =
     let step = c.in-Some.step in
     let there = sym {b = slice_get ahead index} c.in-Some.ensures in
     subst (λ n. is_in_range n step ≡ true) (sym was.machines) (c.requires.can_try.range step (index, there))
+
+pub attempt-requires-clause-room : goal.attempt-requires-clause-room
+attempt-requires-clause-room c =
+    let s = c.args.scenario.now in
+    let at = c.args.player.now in
+    let ahead = attempts s at in
+    let was = c.loop-index.invariant in
+    let index = c.loop-index.index in
+    let there = sym {b = slice_get ahead index} c.in-Some.ensures in
+    let left = ahead_left s at c.in-Some.step (index, there) in
+    let count = c.steps.ensures.count in
+    let most = ap (λ (m : Machines). m.most) was.machines ∙ c.requires.can_try.room in
+    omega (arith, left, count, most)
 
 pub attempt-requires-clause-later : goal.attempt-requires-clause-later
 attempt-requires-clause-later c =
