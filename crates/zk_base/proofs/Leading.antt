@@ -1,5 +1,5 @@
 -- The first of each rank: what a list of waits has as the first of a rank, and what is kept of that.
-use Rattle.std.proofs.Common.{◌≡◌, ℕ, zero, suc, ◌+◌, ◌<◌, Bool, true, false, not, ◌&&◌, ◌||◌, cond, eqb, ltb, Option, Some, None, is_some, option_map, List, [], ◌∷◌, ◌++◌, length, set, get_or, drop, map, filter, find, refl, sym, ap, subst, ◌∙◌, arith}
+use Rattle.std.proofs.Common.{◌≡◌, ℕ, zero, suc, ◌<◌, Bool, true, false, not, ◌&&◌, ◌||◌, cond, eqb, ltb, Option, Some, None, is_some, option_map, List, [], ◌∷◌, ◌++◌, length, set, get_or, drop, map, filter, find, refl, sym, ap, subst, ◌∙◌, arith}
 use Rattle.std.specs.List.{list_any}
 use Rattle.std.specs.Option.{option_or}
 use Rattle.std.proofs.lemmas.Option.{same_Some}
@@ -72,7 +72,8 @@ first_of-led rank place r fs = by (list_any (is_of rank) fs) refl where
   there None false some = refl
   there (Some n) b some = refl
 
-  new : (o : Option ℕ) (b : Bool) → (b ≡ true → is_some o ≡ false) → cond b (Some place) o ≡ option_or o (cond b (Some place) None)
+  new : (o : Option ℕ) (b : Bool) → (b ≡ true → is_some o ≡ false) → cond b (Some place) o ≡ option_or o (cond b
+      (Some place) None)
   new None true none = refl
   new None false none = refl
   new (Some n) true none = absurd (cc (none refl))
@@ -96,7 +97,8 @@ find-moved rank place r [] = by (eqb rank r) where
   by : (b : Bool) → None ≡ cond b (option_map (λ (_ : ℕ). place) None) None
   by true = refl
   by false = refl
-find-moved rank place r (f ∷ fs) = by (eqb f.rank rank) (eqb f.rank r) (eqb rank r) refl refl refl (find-moved rank place r fs) where
+find-moved rank place r (f ∷ fs) = by (eqb f.rank rank) (eqb f.rank r) (eqb rank r) refl refl refl
+    (find-moved rank place r fs) where
   after : List First
   after = map (λ f. cond (is_of rank f) (moved_to place f) f) fs
 
@@ -175,7 +177,8 @@ module _ {M A : Type 0} where
     pub leads-kept : (ss : List (Slot M A)) (i : ℕ) (d : Slot M A) → i < length ss →
         (leads r ss ≡ Some (place_of (get_or ss i d)) → ⊥) → leads r (set ss i new) ≡ leads r ss
     leads-kept [] i d within isnt = absurd (omega arith)
-    leads-kept (t ∷ ss) zero d within isnt = ap (λ b. val (cond b (Some new) (find (waits_as r) ss))) off ∙ by (waits_as r t) isnt where
+    leads-kept (t ∷ ss) zero d within isnt = ap (λ b. val (cond b (Some new) (find (waits_as r) ss))) off ∙ by
+        (waits_as r t) isnt where
       by : (b : Bool) → (val (cond b (Some t) (find (waits_as r) ss)) ≡ Some (place_of t) → ⊥) →
           leads r ss ≡ val (cond b (Some t) (find (waits_as r) ss))
       by true isnt = absurd (isnt refl)

@@ -8,6 +8,9 @@ pub mod Lists
 pub mod Order
 pub mod Risen
 pub mod SlotLists
+pub mod SlotsEnded
+pub mod SlotsFound
+pub mod SlotsListed
 pub mod SlotsKept
 pub mod SlotWaits
 pub mod WaitDecisions

@@ -1,5 +1,5 @@
 -- Lists whose keys rise: what is at a key, what is left without it, and where a search by the key ends.
-use Rattle.std.proofs.Common.{◌≡◌, ◌≢◌, ℕ, zero, suc, ◌+◌, ◌<◌, ◌≤◌, ◌⊎◌, inl, inr, true, false, not, cond, eqb, ltb, List, [], ◌∷◌, ◌++◌, length, set, get_or, map, filter, All, sym, ap, subst, ◌∙◌, arith}
+use Rattle.std.proofs.Common.{◌≡◌, ◌≢◌, ℕ, zero, suc, ◌<◌, ◌≤◌, ◌⊎◌, inl, inr, true, false, not, cond, eqb, ltb, List, [], ◌∷◌, ◌++◌, length, set, get_or, map, filter, All, sym, ap, subst, ◌∙◌, arith}
 use Rattle.std.specs.List.{remove}
 use Rattle.std.specs.List.Sorted.{IsPartitionedBy, IsPartitionPoint}
 use Rattle.std.proofs.lemmas.Bool.{cases_eq, cases_order, ltb-true, ltb-false, eq-eqb, ne_eqb, lt-ltb, not_from_false}
@@ -29,7 +29,8 @@ module _ {X : Type 0} (key : X → ℕ) where
   pub at_key : ℕ → (X → X) → X → X
   at_key k f x = cond (eqb (key x) k) (f x) x
 
-  elsewhere_same : (k : ℕ) (f : X → X) (xs : List X) → All (λ (y : X). key y ≢ k) xs → map (λ x. cond (eqb (key x) k) (f x) x) xs ≡ xs
+  elsewhere_same : (k : ℕ) (f : X → X) (xs : List X) → All (λ (y : X). key y ≢ k) xs → map (λ x. cond (eqb (key x) k)
+      (f x) x) xs ≡ xs
   elsewhere_same k f xs differ = map_fixed (λ x. cond (eqb (key x) k) (f x) x) xs
       (λ i d within. ap (λ b. cond b (f (get_or xs i d)) (get_or xs i d)) (ne_eqb (key (get_or xs i d)) k (differ i d within)))
 
@@ -92,7 +93,8 @@ module _ {X : Type 0} (key : X → ℕ) where
   -- a list of the same keys
   pub Rises-map : (f : X → X) → ((x : X) → key (f x) ≡ key x) → (xs : List X) → Rises key xs → Rises key (map f xs)
   Rises-map f same [] rises = rises
-  Rises-map f same (x ∷ xs) rises = Rises-cons (f x) (map f xs) (each xs (above x xs rises)) (Rises-map f same xs (rest x xs rises)) where
+  Rises-map f same (x ∷ xs) rises = Rises-cons (f x) (map f xs) (each xs (above x xs rises)) (Rises-map f same xs
+      (rest x xs rises)) where
     each : (ys : List X) → All (λ (y : X). key x < key y) ys → All (λ (y : X). key (f x) < key y) (map f ys)
     each [] all = All-nil (λ (y : X). key (f x) < key y)
     each (y ∷ ys) all = All-cons (λ (y : X). key (f x) < key y) (f y) (map f ys)

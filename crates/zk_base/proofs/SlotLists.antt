@@ -1,5 +1,5 @@
 -- Lemmas on filters and searches that the lists of waits need.
-use Rattle.std.proofs.Common.{◌≡◌, ℕ, ◌+◌, ◌<◌, ◌≤◌, ◌⊎◌, inl, inr, Bool, true, false, not, cond, ltb, Option, Some, None, is_some, List, [], ◌∷◌, ◌++◌, length, map, filter, filter_map, find, get_or, drop, All, refl, sym, ap, subst, ◌∙◌, arith}
+use Rattle.std.proofs.Common.{◌≡◌, ℕ, ◌<◌, ◌≤◌, ◌⊎◌, inl, inr, Bool, true, false, not, cond, ltb, Option, Some, None, is_some, List, [], ◌∷◌, ◌++◌, length, map, filter, filter_map, find, get_or, drop, All, refl, sym, ap, subst, ◌∙◌, arith}
 use Rattle.std.specs.List.{cons_option}
 use Rattle.std.proofs.lemmas.Option.{same_Some}
 use Rattle.std.proofs.lemmas.Bool.{cases_lt, lt-ltb, le-ltb}
@@ -23,7 +23,8 @@ module _ {X : Type 0} where
     by false false px qx same = same
 
   -- a filter by a weaker test changes nothing before one by a stronger
-  pub filter-weaker : (p q : X → Bool) → ((x : X) → p x ≡ true → q x ≡ true) → (xs : List X) → filter p (filter q xs) ≡ filter p xs
+  pub filter-weaker : (p q : X → Bool) → ((x : X) → p x ≡ true → q x ≡ true) → (xs : List X) → filter p
+      (filter q xs) ≡ filter p xs
   filter-weaker p q weaker [] = refl
   filter-weaker p q weaker (x ∷ xs) = by (p x) (q x) refl refl (filter-weaker p q weaker xs) where
     by : (b c : Bool) → p x ≡ b → q x ≡ c → filter p (filter q xs) ≡ filter p xs →
@@ -125,7 +126,8 @@ module _ {X : Type 0} where
   Ascends-same key k [] all = tt
   Ascends-same key k (x ∷ xs) all =
       let here = All-head (λ (x : X). key x ≡ k) x xs all in (
-        All-weaker (λ (y : X). key y ≡ k) (λ (y : X). key x ≤ key y) (λ y h. omega arith) xs (All-tail (λ (x : X). key x ≡ k) x xs all),
+        All-weaker (λ (y : X). key y ≡ k) (λ (y : X). key x ≤ key y) (λ y h. omega arith) xs
+            (All-tail (λ (x : X). key x ≡ k) x xs all),
         Ascends-same key k xs (All-tail (λ (x : X). key x ≡ k) x xs all),
       )
 
@@ -158,7 +160,8 @@ module _ {X Y : Type 0} (h : X → Option Y) (p : Y → Bool) (q : X → Bool)
 
     by : (o : Option Y) (b : Bool) → h x ≡ o → q x ≡ b → length (cond b (x ∷ filter q xs) (filter q xs)) ≤ 1 →
         is_some (find p (cons_option o (filter_map h xs))) ≡ true →
-        (length (filter q xs) ≤ 1 → is_some (find p (filter_map h xs)) ≡ true → without_first p (filter_map h xs) ≡ filter_map h left) →
+        (length (filter q xs) ≤ 1 → is_some (find p (filter_map h xs)) ≡ true → without_first p
+            (filter_map h xs) ≡ filter_map h left) →
         without_first p (cons_option o (filter_map h xs)) ≡ filter_map h (cond (not b) (x ∷ left) left)
     by None true hx qx once some further = absurd (cc (
       some,

@@ -1,5 +1,5 @@
 -- What a list of kept waits says of who waits and of what is decided, and how that changes.
-use Rattle.std.proofs.Common.{◌≡◌, ℕ, suc, ◌+◌, ◌<◌, ◌≤◌, ◌⊎◌, inl, inr, ℤ, Bool, true, false, not, ◌&&◌, ◌||◌, cond, eqb, ltb, Option, Some, None, is_some, option_map, List, [], ◌∷◌, ◌++◌, length, map, filter, filter_map, find, slice_get, drop, All, refl, sym, ap, subst, ◌∙◌, arith}
+use Rattle.std.proofs.Common.{◌≡◌, ℕ, suc, ◌<◌, ◌≤◌, ◌⊎◌, inl, inr, ℤ, Bool, true, false, not, ◌&&◌, ◌||◌, cond, eqb, ltb, Option, Some, None, is_some, option_map, List, [], ◌∷◌, ◌++◌, length, map, filter, filter_map, find, slice_get, drop, All, refl, sym, ap, subst, ◌∙◌, arith}
 use Rattle.std.specs.Prelude.{int_lt}
 use Rattle.std.specs.Cmp.{first_so, second_so}
 use Rattle.std.specs.List.{list_any, cons_option}
@@ -17,7 +17,7 @@ use Rattle.zk_base.specs.declared.slots.Stage.TheVariants.{Waits, Decided, Ended
 use Rattle.zk_base.specs.Lists.{put_before, without_first}
 use Rattle.zk_base.specs.Order.{put_by, put_all_by, by_key, Ascends}
 use Rattle.zk_base.specs.Waits.{Waits as AllWaits, is_served_after, is_waiter, is_decision, decide, decision_of, goes_on, joined, left, ended, all_decided, first_decided}
-use Rattle.zk_base.specs.Slots.{IsPriority, rank_of, place_of, goes_on_at, is_open_at, answer_at, is_waiting, is_open, has_answer, decision_in, answer_for, IsRanked, over, decided_as, decided_all, line, told, waits_in, waits_as, leads}
+use Rattle.zk_base.specs.Slots.{IsPriority, rank_of, place_of, goes_on_at, is_open_at, answer_at, is_waiting, is_open, has_answer, decision_in, answer_for, IsRanked, over, decided_as, decided_all, line, told, waits_in, waits_as, leads, IsClosedUp}
 use Rattle.zk_base.proofs.Order.{Ascends-put_by, by_key-snoc, All-by_key, length-by_key, map-by_key, filter-by_key, by_key-ascending, find-filter, filter_all, filter_none}
 use Rattle.zk_base.proofs.SlotLists.{all-of-filter, filters-swap, filter-weaker, filter-not, found-passes, found-alone, ascending-parts, Ascends-same, find-through, without-through, without-absent, map-some}
 
@@ -130,7 +130,8 @@ module _ {M A : Type 0} where
   find-waiter player place ss =
       ap (find (is_waiter player place)) (map-some waiter (line ss))
       ∙ find-through (λ s. Some s.waiter) (is_waiter player place) (here place) (only-waiter player place) (line ss)
-      ∙ ap (λ (l : List (Slot M A)). find (is_waiter player place) (filter_map (λ s. Some s.waiter) l)) (line-here (here place) ss)
+      ∙ ap (λ (l : List (Slot M A)). find (is_waiter player place) (filter_map (λ s. Some s.waiter) l)) (line-here
+          (here place) ss)
       ∙ sym (ap (find (is_waiter player place)) (map-some waiter (line (filter (here place) ss))))
 
   -- One is changed so that it no longer counts.
@@ -161,8 +162,16 @@ module _ {M A : Type 0} where
 
   told-over : (place : ℕ) (ss : List (Slot M A)) →
       told (map (λ t. cond (eqb (place_of t) place) (over t) t) ss) ≡ filter (away place) (told ss)
-  told-over place ss = ap (λ (l : List (Slot M A)). by_key number (by_key rank l)) (filter-off has_answer over (λ s. refl) place ss)
+  told-over place ss = ap (λ (l : List (Slot M A)). by_key number (by_key rank l)) (filter-off has_answer over
+      (λ s. refl) place ss)
       ∙ sym (told-filter (away place) ss)
+
+  -- none of the place is decided
+  pub decision-untold : (player place : ℕ) (ss : List (Slot M A)) → All (λ s. has_answer s ≡ false) (filter (here place) ss) →
+      decision_of (waits_in ss) player place ≡ None
+  decision-untold player place ss untold = ap (option_map (λ (d : Decision A). d.answer)) (find-decision player place ss
+      ∙ ap (λ (l : List (Slot M A)). find (is_decision player place) (filter_map decision_in (by_key number (by_key rank l))))
+      (filter_none has_answer (filter (here place) ss) untold))
 
   -- none is of the place
   module _ (player place : ℕ) (ss : List (Slot M A)) (none : filter (here place) ss ≡ []) where
@@ -357,7 +366,8 @@ module _ {M A : Type 0} where
       by (Decided a) on = absurd (cc)
       by Ended on = absurd (cc)
 
-    told-older : (ss : List (Slot M A)) → All (λ s. u s ≡ true → is_waiting s ≡ true) ss → All (λ (s : Slot M A). s.number < n) ss →
+    told-older : (ss : List (Slot M A)) → All (λ s. u s ≡ true → is_waiting s ≡ true) ss →
+        All (λ (s : Slot M A). s.number < n) ss →
         filter older (filter has_answer (map marked ss)) ≡ filter has_answer ss
     told-older [] all old = refl
     told-older (s ∷ ss) all old = by (u s) (has_answer s) refl refl
@@ -380,7 +390,8 @@ module _ {M A : Type 0} where
               ∙ ap (λ (l : List (Slot M A)). s ∷ l) same
           by false false us hs waits less same = ap (λ b. filter older (cond b (s ∷ after) after)) hs ∙ same
 
-    told-newer : (ss : List (Slot M A)) → All (λ s. u s ≡ true → is_waiting s ≡ true) ss → All (λ (s : Slot M A). s.number < n) ss →
+    told-newer : (ss : List (Slot M A)) → All (λ s. u s ≡ true → is_waiting s ≡ true) ss →
+        All (λ (s : Slot M A). s.number < n) ss →
         filter newer (filter has_answer (map marked ss)) ≡ map (decided_as n answer) (filter u (filter is_waiting ss))
     told-newer [] all old = refl
     told-newer (s ∷ ss) all old = by (u s) (is_waiting s) refl refl
@@ -417,7 +428,8 @@ module _ {M A : Type 0} where
 
     all-new : (ss : List (Slot M A)) → All (λ (s : Slot M A). s.number ≡ n) (map (decided_as n answer) ss)
     all-new [] = All-nil (λ (s : Slot M A). s.number ≡ n)
-    all-new (s ∷ ss) = All-cons (λ (s : Slot M A). s.number ≡ n) (decided_as n answer s) (map (decided_as n answer) ss) refl (all-new ss)
+    all-new (s ∷ ss) = All-cons (λ (s : Slot M A). s.number ≡ n) (decided_as n answer s) (map (decided_as n answer) ss) refl
+        (all-new ss)
 
     told-marked : (ss : List (Slot M A)) → All (λ s. u s ≡ true → is_waiting s ≡ true) ss →
         All (λ (s : Slot M A). s.number < n) ss →
@@ -473,7 +485,8 @@ module _ {M A : Type 0} where
       (ap (λ (l : List (Slot M A)). map waiter (filter (away place) l)) first
       ∙ ap (map waiter) without)
       (ap (λ (l : List (Slot M A)). filter_map decision_in (told ss) ++ map (decide answer) (map waiter l)) mine)
-      ∙ sym (ap (λ (l : List (Slot M A)). first_decided answer (record { waiting = map waiter l; decided = filter_map decision_in (told ss) })) first) where
+      ∙ sym (ap (λ (l : List (Slot M A)). first_decided answer (record { waiting = map waiter l; decided = filter_map
+          decision_in (told ss) })) first) where
         mine : filter (here place) (line ss) ≡ s ∷ []
         mine = line-here (here place) ss ∙ ap line alone ∙ ap (λ b. by_key rank (cond b (s ∷ []) [])) on
 
@@ -481,7 +494,8 @@ module _ {M A : Type 0} where
         split = sym (ap (filter (here place)) first) ∙ mine
 
         at : here place s ≡ true
-        at = All-head (λ t. here place t ≡ true) s [] (subst (All (λ t. here place t ≡ true)) alone (filter_passes (here place) ss))
+        at = All-head (λ t. here place t ≡ true) s [] (subst (All (λ t. here place t ≡ true)) alone (filter_passes
+            (here place) ss))
 
         rest_away : filter (here place) ls ≡ []
         rest_away = ap (λ (l : List (Slot M A)). drop 1 l)
@@ -500,7 +514,8 @@ module _ {M A : Type 0} where
     later r true is = absurd (cc)
     later r false is = is
 
-    by : (b : Bool) → is_waiting s ≡ b → leads s.rank (s ∷ ss) ≡ None → (((r : ℕ) → leads r ss ≡ None) → filter is_waiting ss ≡ []) →
+    by : (b : Bool) → is_waiting s ≡ b → leads s.rank (s ∷ ss) ≡ None →
+        (((r : ℕ) → leads r ss ≡ None) → filter is_waiting ss ≡ []) →
         cond b (s ∷ filter is_waiting ss) (filter is_waiting ss) ≡ []
     by true on is further = absurd (cc (sym (ap (λ b. option_map place_of (cond b (Some s) (find (waits_as s.rank) ss)))
         (ap (λ b. b && eqb s.rank s.rank) on ∙ eq-eqb s.rank s.rank refl)) ∙ is))
@@ -631,7 +646,6 @@ module _ {M A : Type 0} where
         at None is = refl
         at (Some w) is = absurd (cc)
 
-  pub waits-closed : (ss ts : List (Slot M A)) (e f : ℕ) → ((ts ≡ ss) × (f ≡ e)) ⊎ ((ts ≡ filter is_open ss) × (f ≡ 0)) →
-      waits_in ts ≡ waits_in ss
-  waits-closed ss ts e f (inl same) = ap waits_in same.0
-  waits-closed ss ts e f (inr out) = ap waits_in out.0 ∙ waits-open ss
+  pub waits-closed : {ss ts : List (Slot M A)} {e f : ℕ} → IsClosedUp ss e ts f → waits_in ts ≡ waits_in ss
+  waits-closed {ss} (inl same) = ap waits_in same.0
+  waits-closed {ss} (inr out) = ap waits_in out.0 ∙ waits-open ss

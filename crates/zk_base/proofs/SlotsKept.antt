@@ -1,6 +1,7 @@
 -- What is kept of waits stays true under each change.
 use Rattle.std.proofs.Common.{◌≡◌, ◌≢◌, ℕ, zero, suc, ◌+◌, ◌-◌, ◌<◌, ◌≤◌, ◌⊎◌, inl, inr, Bool, true, false, not, ◌&&◌, ◌||◌, cond, eqb, Option, Some, None, is_some, option_map, List, [], ◌∷◌, ◌++◌, length, set, get_or, take, drop, map, filter, find, slice_get, All, refl, sym, ap, subst, ◌∙◌, arith}
 use Rattle.std.specs.Option.{option_or, option_map_or}
+use Rattle.std.specs.Cmp.{first_so}
 use Rattle.std.proofs.lemmas.Option.{same_Some}
 use Rattle.std.proofs.lemmas.Bool.{cases_eq, cases_lt, eqb-true, eq-eqb, ne_eqb, lt-ltb, le-ltb}
 use Rattle.std.proofs.lemmas.List.{length-append, length-set, length-map}
@@ -13,7 +14,7 @@ use Rattle.zk_base.specs.declared.slots.Stage.TheVariants.{Waits, Decided, Ended
 use Rattle.zk_base.specs.declared.leaders.First.{First}
 use Rattle.zk_base.specs.Order.{put_by, by_key}
 use Rattle.zk_base.specs.Waits.{open_waits}
-use Rattle.zk_base.specs.Slots.{Rises, place_of, goes_on_at, is_open_at, answer_at, is_waiting, is_open, has_answer, answer_for, IsRanked, over, decided_as, decided_all, line, waits_in, waits_as, leads, is_of, first_of, led, moved_to, replaced, passed_on, IsKept}
+use Rattle.zk_base.specs.Slots.{Rises, place_of, goes_on_at, is_open_at, answer_at, is_waiting, is_open, has_answer, answer_for, IsRanked, over, decided_as, decided_all, line, waits_in, waits_as, leads, is_of, first_of, led, moved_to, replaced, passed_on, IsClosedUp, IsKept}
 use Rattle.zk_base.proofs.Firsts.{All-found}
 use Rattle.zk_base.proofs.Order.{All-put_by, find-filter}
 use Rattle.zk_base.proofs.SlotLists.{find-weaker, found-passes, found-alone}
@@ -24,7 +25,8 @@ use Rattle.zk_base.proofs.Risen.{rest, above, Rises-push, Rises-cons, Rises-map,
 abbrev pub one : Bool → ℕ
 one b = cond b 1 0
 
-length-snoc : {X : Type 0} (p : X → Bool) (xs : List X) (x : X) → length (filter p (xs ++ x ∷ [])) ≡ length (filter p xs) + one (p x)
+length-snoc : {X : Type 0} (p : X → Bool) (xs : List X) (x : X) → length (filter p (xs ++ x ∷ [])) ≡ length (filter p xs) + one
+    (p x)
 length-snoc {X} p xs x = ap length (filter-append p xs (x ∷ [])) ∙ length-append (filter p xs) (cond (p x) (x ∷ []) [])
     ∙ ap (λ n. length (filter p xs) + n) (by (p x)) where
       by : (b : Bool) → length (cond b (x ∷ []) []) ≡ one b
@@ -36,7 +38,8 @@ pub length-filter-set : {X : Type 0} (p : X → Bool) (xs : List X) (i : ℕ) (d
     length (filter p (set xs i y)) + one (p (get_or xs i d)) ≡ length (filter p xs) + one (p y)
 length-filter-set p [] i d y within = absurd (omega arith)
 length-filter-set {X} p (x ∷ xs) zero d y within = by (p x) (p y) where
-  by : (a b : Bool) → length (cond b (y ∷ filter p xs) (filter p xs)) + one a ≡ length (cond a (x ∷ filter p xs) (filter p xs)) + one b
+  by : (a b : Bool) → length (cond b (y ∷ filter p xs) (filter p xs)) + one a ≡ length (cond a (x ∷ filter p xs)
+      (filter p xs)) + one b
   by true true = refl
   by true false = omega arith
   by false true = omega arith
@@ -91,7 +94,8 @@ Rises-led rank place fs rises = by (list_any (is_of rank) fs) refl where
   by true is = rises
   by false is = Rises-put rank place fs rises is
 
-pub Rises-replaced : (rank : ℕ) (next : Option ℕ) (fs : List First) → Rises rank_of_first fs → Rises rank_of_first (replaced rank next fs)
+pub Rises-replaced : (rank : ℕ) (next : Option ℕ) (fs : List First) → Rises rank_of_first fs → Rises rank_of_first
+    (replaced rank next fs)
 Rises-replaced rank None fs rises = AllPairs-filter (λ (f g : First). f.rank < g.rank) (λ f. not (is_of rank f)) fs rises
 Rises-replaced rank (Some place) fs rises =
     Rises-map rank_of_first (λ f. cond (is_of rank f) (moved_to place f) f) (λ f. by (is_of rank f) f) fs rises where
@@ -108,16 +112,16 @@ Rises-passed rank place next fs rises = by (option_map_or (λ first. eqb first p
 
 module _ {M A : Type 0} where
   -- how many waits there are
-  pub open-is : (ss : List (Slot M A)) (fs : List First) (w e n d : ℕ) → IsKept ss fs w e n d →
+  pub open-is : {ss : List (Slot M A)} {fs : List First} {w e n d : ℕ} → IsKept ss fs w e n d →
       open_waits (waits_in ss) + e ≡ length ss
-  open-is ss fs w e n d k =
+  open-is {ss} {fs} {w} {e} {n} {d} k =
       let one = length-waiting ss in let two = length-decided ss in let c = k.counted in let u = k.unended in omega arith
 
   -- one more
-  pub kept-joined : (ss : List (Slot M A)) (fs : List First) (w e n d : ℕ) (s : Slot M A) → IsKept ss fs w e n d →
+  pub kept-joined : {ss : List (Slot M A)} {fs : List First} {w e n d : ℕ} (s : Slot M A) → IsKept ss fs w e n d →
       n ≤ place_of s → s.stage ≡ Waits → IsRanked s → s.number ≡ 0 →
       IsKept (ss ++ s ∷ []) (led s.rank (place_of s) fs) (w + 1) e (place_of s + 1) d
-  kept-joined ss fs w e n d s k up on ranked new =
+  kept-joined {ss} {fs} {w} {e} {n} {d} s k up on ranked new =
       let waits : is_waiting s ≡ true = ap goes_on_at on in
       let told : has_answer s ≡ false = ap (λ st. is_some (answer_at st)) on in
       let more = length-snoc is_waiting ss s in
@@ -129,10 +133,12 @@ module _ {M A : Type 0} where
       let unended = k.unended in
       let few = k.few in
       record {
-        rises = Rises-push place_of ss s k.rises (All-weaker (λ (t : Slot M A). place_of t < n) (λ (t : Slot M A). place_of t < place_of s)
+        rises = Rises-push place_of ss s k.rises (All-weaker (λ (t : Slot M A). place_of t < n)
+            (λ (t : Slot M A). place_of t < place_of s)
             (λ t h. omega arith) ss k.below);
         below = All-push (λ (t : Slot M A). place_of t < place_of s + 1) ss s
-            (All-weaker (λ (t : Slot M A). place_of t < n) (λ (t : Slot M A). place_of t < place_of s + 1) (λ t h. omega arith) ss k.below)
+            (All-weaker (λ (t : Slot M A). place_of t < n) (λ (t : Slot M A). place_of t < place_of s + 1)
+                (λ t h. omega arith) ss k.below)
             (omega arith);
         ranked = All-push IsRanked ss s k.ranked ranked;
         numbered = All-push (λ (t : Slot M A). t.number ≤ d) ss s k.numbered (omega arith);
@@ -214,11 +220,13 @@ module _ {M A : Type 0} where
         at : (b : Bool) → eqb first place ≡ b → first_of r (cond b (replaced rank next fs) fs) ≡ leads r (set ss i new)
         at true here = first_of-replaced rank r next fs (ap is_some is)
             ∙ passes (eqb rank r) refl (sym (leaders rank) ∙ is ∙ ap (λ n. Some n) (eqb-true first place here))
-        at false here = isnt (λ lead. absurd (cc (eq-eqb first place (same_Some first place (sym is ∙ leaders rank ∙ lead)), here)))
+        at false here = isnt (λ lead. absurd (cc (eq-eqb first place (same_Some first place
+            (sym is ∙ leaders rank ∙ lead)), here)))
 
     -- one that didn't go on
     leaders-set : (fs : List First) → Rises place_of ss → ((r : ℕ) → waits_as r new ≡ false) →
-        is_waiting (get_or ss i d) ≡ false → ((r : ℕ) → first_of r fs ≡ leads r ss) → (r : ℕ) → first_of r fs ≡ leads r (set ss i new)
+        is_waiting (get_or ss i d) ≡ false → ((r : ℕ) → first_of r fs ≡ leads r ss) → (r : ℕ) → first_of r fs ≡ leads r
+            (set ss i new)
     leaders-set fs rises off on leaders r = leaders r ∙ sym (leads-kept r new (off r) ss i d within isnt) where
       place : ℕ
       place = place_of (get_or ss i d)
@@ -231,7 +239,8 @@ module _ {M A : Type 0} where
             let alone = alone-at place_of ss i d place rises within refl in
             let itself = found-alone (waits_as r) (λ s. eqb (place_of s) place) ss t (get_or ss i d) found
             (eq-eqb (place_of t) place (same_Some (place_of t) place is)) alone in
-            absurd (cc (ap is_waiting itself, on, first (is_waiting t) (eqb t.rank r) (found-passes (waits_as r) ss t found))) where
+            absurd (cc (ap is_waiting itself, on, first (is_waiting t) (eqb t.rank r) (found-passes
+                (waits_as r) ss t found))) where
               first : (a b : Bool) → (a && b) ≡ true → a ≡ true
               first true b is = refl
               first false b is = absurd (cc)
@@ -249,7 +258,7 @@ module _ {M A : Type 0} where
     by (Decided a) on = absurd (cc)
     by Ended on = absurd (cc)
 
-  module _ (ss : List (Slot M A)) (fs : List First) (w e n d : ℕ) (k : IsKept ss fs w e n d) (i : ℕ) (def : Slot M A)
+  module _ {ss : List (Slot M A)} {fs : List First} {w e n d : ℕ} (k : IsKept ss fs w e n d) (i : ℕ) (def : Slot M A)
       (within : i < length ss) where
     abbrev it : Slot M A
     it = get_or ss i def
@@ -262,60 +271,53 @@ module _ {M A : Type 0} where
         let counted = k.counted in
         omega arith
 
+    -- one that goes on does so no longer
+    kept-changed : (new : Slot M A) (f c : ℕ) → is_waiting it ≡ true → place_of new ≡ place_of it → (IsRanked it → IsRanked new) →
+        new.number ≤ c → d ≤ c → c + w ≤ n + 1 → is_waiting new ≡ false → ((r : ℕ) → waits_as r new ≡ false) →
+        one (has_answer new) + f ≡ e + 1 →
+        IsKept (set ss i new) (passed_on it.rank (place_of it) (leads it.rank (drop (i + 1) ss)) fs) (w - 1) f n c
+    kept-changed new f c on same ranked fits later few over off told =
+        let less = length-filter-set is_waiting ss i def new within in
+        let more = length-filter-set has_answer ss i def new within in
+        let long = length-set ss i new in
+        let mine : one (is_waiting it) ≡ 1 = ap one on in
+        let its : one (is_waiting new) ≡ 0 = ap one over in
+        let untold : one (has_answer it) ≡ 0 = ap one (told-off it on) in
+        let some = some-waits on in
+        let counted = k.counted in
+        let unended = k.unended in
+        record {
+          rises = rises-set ss i def within new same k.rises;
+          below = All-set (λ (t : Slot M A). place_of t < n) ss i new
+              (subst (λ m. m < n) (sym same) (All-get_or (λ (t : Slot M A). place_of t < n) ss i def within k.below)) k.below;
+          ranked = All-set IsRanked ss i new (ranked (All-get_or IsRanked ss i def within k.ranked)) k.ranked;
+          numbered = All-set (λ (t : Slot M A). t.number ≤ c) ss i new fits
+              (All-weaker (λ (t : Slot M A). t.number ≤ d) (λ (t : Slot M A). t.number ≤ c) (λ t h. omega arith) ss k.numbered);
+          leaders = leaders-passed ss i def within new same fs k.rises off on k.leaders;
+          ordered = Rises-passed it.rank (place_of it) (leads it.rank (drop (i + 1) ss)) fs k.ordered;
+          counted = omega arith;
+          unended = omega arith;
+          few = omega (arith, few, some);
+        }
+
     -- one that goes on is decided
     pub kept-decided : (answer : A) → is_waiting it ≡ true →
         IsKept (set ss i (decided_as (d + 1) answer it)) (passed_on it.rank (place_of it) (leads it.rank (drop (i + 1) ss)) fs)
         (w - 1) e n (d + 1)
     kept-decided answer on =
-        let new = decided_as (d + 1) answer it in
-        let less = length-filter-set is_waiting ss i def new within in
-        let more = length-filter-set has_answer ss i def new within in
-        let long = length-set ss i new in
-        let mine : one (is_waiting it) ≡ 1 = ap one on in
-        let untold : one (has_answer it) ≡ 0 = ap one (told-off it on) in
-        let some = some-waits on in
-        let counted = k.counted in
-        let unended = k.unended in
         let few = k.few in
-        record {
-          rises = rises-set ss i def within new refl k.rises;
-          below = All-set (λ (t : Slot M A). place_of t < n) ss i new (All-get_or (λ (t : Slot M A). place_of t < n) ss i def within k.below) k.below;
-          ranked = All-set IsRanked ss i new (All-get_or IsRanked ss i def within k.ranked) k.ranked;
-          numbered = All-set (λ (t : Slot M A). t.number ≤ d + 1) ss i new (omega arith)
-              (All-weaker (λ (t : Slot M A). t.number ≤ d) (λ (t : Slot M A). t.number ≤ d + 1) (λ t h. omega arith) ss k.numbered);
-          leaders = leaders-passed ss i def within new refl fs k.rises (decided-off (d + 1) answer it) on k.leaders;
-          ordered = Rises-passed it.rank (place_of it) (leads it.rank (drop (i + 1) ss)) fs k.ordered;
-          counted = omega arith;
-          unended = omega arith;
-          few = omega arith;
-        }
+        kept-changed (decided_as (d + 1) answer it) e (d + 1) on refl (λ ranked. ranked) (omega arith) (omega arith) (omega
+            (arith, few)) refl
+        (decided-off (d + 1) answer it) (omega arith)
 
     -- one that goes on ends
     pub kept-quitted : is_waiting it ≡ true →
         IsKept (set ss i (over it)) (passed_on it.rank (place_of it) (leads it.rank (drop (i + 1) ss)) fs) (w - 1) (e + 1) n d
     kept-quitted on =
-        let new = over it in
-        let less = length-filter-set is_waiting ss i def new within in
-        let more = length-filter-set has_answer ss i def new within in
-        let long = length-set ss i new in
-        let mine : one (is_waiting it) ≡ 1 = ap one on in
-        let untold : one (has_answer it) ≡ 0 = ap one (told-off it on) in
-        let some = some-waits on in
-        let counted = k.counted in
-        let unended = k.unended in
         let few = k.few in
-        record {
-          rises = rises-set ss i def within new refl k.rises;
-          below = All-set (λ (t : Slot M A). place_of t < n) ss i new (All-get_or (λ (t : Slot M A). place_of t < n) ss i def within k.below) k.below;
-          ranked = All-set IsRanked ss i new (All-get_or IsRanked ss i def within k.ranked) k.ranked;
-          numbered = All-set (λ (t : Slot M A). t.number ≤ d) ss i new
-              (All-get_or (λ (t : Slot M A). t.number ≤ d) ss i def within k.numbered) k.numbered;
-          leaders = leaders-passed ss i def within new refl fs k.rises (over-off it) on k.leaders;
-          ordered = Rises-passed it.rank (place_of it) (leads it.rank (drop (i + 1) ss)) fs k.ordered;
-          counted = omega arith;
-          unended = omega arith;
-          few = omega arith;
-        }
+        kept-changed (over it) (e + 1) d on refl (λ ranked. ranked)
+            (All-get_or (λ (t : Slot M A). t.number ≤ d) ss i def within k.numbered)
+        (omega arith) (omega (arith, few)) refl (over-off it) (omega arith)
 
     -- one that is decided ends
     pub kept-ended : is_waiting it ≡ false → has_answer it ≡ true → IsKept (set ss i (over it)) fs w (e + 1) n d
@@ -330,7 +332,8 @@ module _ {M A : Type 0} where
         let unended = k.unended in
         record {
           rises = rises-set ss i def within new refl k.rises;
-          below = All-set (λ (t : Slot M A). place_of t < n) ss i new (All-get_or (λ (t : Slot M A). place_of t < n) ss i def within k.below) k.below;
+          below = All-set (λ (t : Slot M A). place_of t < n) ss i new
+              (All-get_or (λ (t : Slot M A). place_of t < n) ss i def within k.below) k.below;
           ranked = All-set IsRanked ss i new (All-get_or IsRanked ss i def within k.ranked) k.ranked;
           numbered = All-set (λ (t : Slot M A). t.number ≤ d) ss i new
               (All-get_or (λ (t : Slot M A). t.number ≤ d) ss i def within k.numbered) k.numbered;
@@ -354,12 +357,13 @@ module _ {M A : Type 0} where
     by (Decided a) same = omega arith
     by Ended same = same
 
-  pub kept-closed : (ss ts : List (Slot M A)) (fs : List First) (w e f n d : ℕ) → IsKept ss fs w e n d →
-      ((ts ≡ ss) × (f ≡ e)) ⊎ ((ts ≡ filter is_open ss) × (f ≡ 0)) → IsKept ts fs w f n d
-  kept-closed ss ts fs w e f n d k (inl same) =
+  pub kept-closed : {ss ts : List (Slot M A)} {fs : List First} {w e f n d : ℕ} → IsKept ss fs w e n d → IsClosedUp ss e ts f →
+      IsKept ts fs w f n d
+  kept-closed {ss} {ts} {fs} {w} {e} {f} {n} {d} k (inl same) =
       subst (λ (l : List (Slot M A)). IsKept l fs w f n d) (sym same.0) (subst (λ m. IsKept ss fs w m n d) (sym same.1) k)
-  kept-closed ss ts fs w e f n d k (inr out) =
-      subst (λ (l : List (Slot M A)). IsKept l fs w f n d) (sym out.0) (subst (λ m. IsKept (filter is_open ss) fs w m n d) (sym out.1)
+  kept-closed {ss} {ts} {fs} {w} {e} {f} {n} {d} k (inr out) =
+      subst (λ (l : List (Slot M A)). IsKept l fs w f n d) (sym out.0) (subst (λ m. IsKept (filter is_open ss) fs w m n d)
+          (sym out.1)
       (let long = length-open ss in
       let waiting = ap length (waiting-open ss) in
       let told = ap length (told-open ss) in
@@ -383,9 +387,9 @@ module _ {M A : Type 0} where
           by Ended is = absurd (cc)
 
   -- all who wait are decided
-  pub kept-all : (ss : List (Slot M A)) (fs : List First) (w e n d : ℕ) (answer : A) → IsKept ss fs w e n d → 0 < w →
+  pub kept-all : {ss : List (Slot M A)} {fs : List First} {w e n d : ℕ} (answer : A) → IsKept ss fs w e n d → 0 < w →
       IsKept (map (decided_all (d + 1) answer) ss) [] 0 e n (d + 1)
-  kept-all ss fs w e n d answer k some =
+  kept-all {ss} {fs} {w} {e} {n} {d} answer k some =
       let f = decided_all (d + 1) answer in
       let none = nobody ss in
       let told = all-told ss in
@@ -396,7 +400,8 @@ module _ {M A : Type 0} where
       record {
         rises = Rises-map place_of f (λ s. by place_of (is_waiting s) s (λ s. refl)) ss k.rises;
         below = All-map (λ (t : Slot M A). place_of t < n) f ss (All-weaker (λ (t : Slot M A). place_of t < n)
-            (λ (t : Slot M A). place_of (f t) < n) (λ t h. subst (λ m. m < n) (sym (by place_of (is_waiting t) t (λ s. refl))) h) ss k.below);
+            (λ (t : Slot M A). place_of (f t) < n) (λ t h. subst (λ m. m < n) (sym (by place_of (is_waiting t) t
+                (λ s. refl))) h) ss k.below);
         ranked = All-map IsRanked f ss (All-weaker IsRanked (λ t. IsRanked (f t)) (λ t h. still (is_waiting t) t h) ss k.ranked);
         numbered = All-map (λ (t : Slot M A). t.number ≤ d + 1) f ss (All-weaker (λ (t : Slot M A). t.number ≤ d)
             (λ (t : Slot M A). (f t).number ≤ d + 1) (λ t h. newer (is_waiting t) t h) ss k.numbered);
@@ -406,7 +411,8 @@ module _ {M A : Type 0} where
         unended = omega arith;
         few = omega arith;
       } where
-        by : {Y : Type 0} (g : Slot M A → Y) (b : Bool) (s : Slot M A) → ((s : Slot M A) → g (decided_as (d + 1) answer s) ≡ g s) →
+        by : {Y : Type 0} (g : Slot M A → Y) (b : Bool) (s : Slot M A) → ((s : Slot M A) → g (decided_as
+            (d + 1) answer s) ≡ g s) →
             g (cond b (decided_as (d + 1) answer s) s) ≡ g s
         by g true s same = same s
         by g false s same = refl
@@ -426,7 +432,8 @@ module _ {M A : Type 0} where
           after = filter is_waiting (map (decided_all (d + 1) answer) ss)
 
           at : (b : Bool) → is_waiting s ≡ b → after ≡ [] →
-              cond (is_waiting (cond b (decided_as (d + 1) answer s) s)) (cond b (decided_as (d + 1) answer s) s ∷ after) after ≡ []
+              cond (is_waiting (cond b (decided_as (d + 1) answer s) s)) (cond b (decided_as
+                  (d + 1) answer s) s ∷ after) after ≡ []
           at true on none = none
           at false on none = ap (λ b. cond b (s ∷ after) after) on ∙ none
 
@@ -438,13 +445,16 @@ module _ {M A : Type 0} where
           after = filter has_answer (map (decided_all (d + 1) answer) ss)
 
           both : (c : Bool) → length after ≡ length (filter is_waiting ss) + length (filter has_answer ss) →
-              length (cond c (s ∷ after) after) ≡ length (filter is_waiting ss) + length (cond c (s ∷ filter has_answer ss) (filter has_answer ss))
+              length (cond c (s ∷ after) after) ≡ length (filter is_waiting ss) + length (cond c (s ∷ filter has_answer ss)
+                  (filter has_answer ss))
           both true same = omega arith
           both false same = same
 
           at : (b : Bool) → is_waiting s ≡ b → length after ≡ length (filter is_waiting ss) + length (filter has_answer ss) →
-              length (cond (has_answer (cond b (decided_as (d + 1) answer s) s)) (cond b (decided_as (d + 1) answer s) s ∷ after) after)
-              ≡ length (cond b (s ∷ filter is_waiting ss) (filter is_waiting ss)) + length (cond (has_answer s) (s ∷ filter has_answer ss) (filter has_answer ss))
+              length (cond (has_answer (cond b (decided_as (d + 1) answer s) s)) (cond b (decided_as
+                  (d + 1) answer s) s ∷ after) after)
+              ≡ length (cond b (s ∷ filter is_waiting ss) (filter is_waiting ss)) + length (cond (has_answer s)
+                  (s ∷ filter has_answer ss) (filter has_answer ss))
           at true on same =
               let off = ap (λ c. length (cond c (s ∷ filter has_answer ss) (filter has_answer ss))) (told-off s on) in omega arith
           at false on same = both (has_answer s) same
@@ -453,7 +463,8 @@ module _ {M A : Type 0} where
         unled r [] = refl
         unled r (s ∷ ss) = at (is_waiting s) refl (unled r ss) where
           at : (b : Bool) → is_waiting s ≡ b → leads r (map (decided_all (d + 1) answer) ss) ≡ None →
-              option_map place_of (cond (waits_as r (cond b (decided_as (d + 1) answer s) s)) (Some (cond b (decided_as (d + 1) answer s) s))
+              option_map place_of (cond (waits_as r (cond b (decided_as (d + 1) answer s) s)) (Some (cond b (decided_as
+                  (d + 1) answer s) s))
               (find (waits_as r) (map (decided_all (d + 1) answer) ss))) ≡ None
           at true on none = none
           at false on none = ap (λ b. option_map place_of (cond (b && eqb s.rank r) (Some s)
@@ -490,7 +501,8 @@ first-at rank at fs d rises within is = ap (option_map (λ (f : First). f.place)
 pub passed-none : (rank place : ℕ) (next : Option ℕ) (fs : List First) → All (λ (f : First). f.rank ≢ rank) fs →
     passed_on rank place next fs ≡ fs
 passed-none rank place next fs differ =
-    ap (λ (o : Option ℕ). cond (option_map_or (λ first. eqb first place) o false) (replaced rank next fs) fs) (no-first rank fs differ)
+    ap (λ (o : Option ℕ). cond (option_map_or (λ first. eqb first place) o false) (replaced rank next fs) fs)
+        (no-first rank fs differ)
 
 pub passed-other : (rank place at : ℕ) (next : Option ℕ) (fs : List First) (d : First) → Rises rank_of_first fs → at < length fs →
     (get_or fs at d).rank ≡ rank → (get_or fs at d).place ≢ place → passed_on rank place next fs ≡ fs
@@ -522,16 +534,21 @@ passed-remove rank place at fs d rises within is same =
 
 -- Who is served first.
 
--- the element at an index
-pub at_index : {X : Type 0} (xs : List X) (i : ℕ) → i < length xs → X
-at_index [] i within = absurd (omega arith)
-at_index (x ∷ xs) zero within = x
-at_index (x ∷ xs) (suc i) within = at_index xs i (omega arith)
+-- where one is found, one at least passes a weaker test
+found-some : {X : Type 0} (p q : X → Bool) (xs : List X) → ((x : X) → p x ≡ true → q x ≡ true) → is_some (find p xs) ≡ true →
+    0 < length (filter q xs)
+found-some p q [] both some = absurd (cc (some))
+found-some {X} p q (x ∷ xs) both some = by (p x) (q x) refl refl (found-some p q xs both) some where
+  by : (a b : Bool) → p x ≡ a → q x ≡ b → (is_some (find p xs) ≡ true → 0 < length (filter q xs)) →
+      is_some (cond a (Some x) (find p xs)) ≡ true → 0 < length (cond b (x ∷ filter q xs) (filter q xs))
+  by a true is passes further some = omega arith
+  by true false is isnt further some = absurd (cc (both x is, isnt))
+  by false false is isnt further some = further some
 
--- what isn't 0 is more
-pub more_than_none : (n : ℕ) → eqb n 0 ≡ false → 0 < n
-more_than_none zero isnt = absurd (cc)
-more_than_none (suc n) isnt = omega arith
+-- what isn't empty has an element
+pub some-items : {X : Type 0} (xs : List X) (n : ℕ) → length xs ≡ n → eqb n 0 ≡ false → 0 < length xs
+some-items xs zero long isnt = absurd (cc)
+some-items xs (suc n) long isnt = omega (arith, long)
 
 pub take-front : {X : Type 0} (xs ys : List X) (n : ℕ) → length xs ≡ n → take n (xs ++ ys) ≡ xs
 take-front [] ys zero long = refl
@@ -550,7 +567,7 @@ lower-none q (f ∷ fs) d rises less = no-first q (f ∷ fs)
     (All-weaker (λ (g : First). f.rank < g.rank) (λ (g : First). g.rank ≢ q) (λ g h same. absurd (omega arith)) fs
     (above rank_of_first f fs rises)))
 
-module _ {M A : Type 0} (ss : List (Slot M A)) (fs : List First) (w e n d : ℕ) (k : IsKept ss fs w e n d) where
+module _ {M A : Type 0} {ss : List (Slot M A)} {fs : List First} {w e n d : ℕ} (k : IsKept ss fs w e n d) where
   -- nobody waits
   pub kept-empty : fs ≡ [] → line ss ≡ []
   kept-empty none = ap (by_key (λ (s : Slot M A). s.rank))
@@ -559,13 +576,29 @@ module _ {M A : Type 0} (ss : List (Slot M A)) (fs : List First) (w e n d : ℕ)
   lead-of : (f : First) → 0 < length fs → leads (get_or fs 0 f).rank ss ≡ Some (get_or fs 0 f).place
   lead-of f some = sym (k.leaders (get_or fs 0 f).rank) ∙ first-at (get_or fs 0 f).rank 0 fs f k.ordered some refl
 
+  -- then somebody waits
+  pub first-waits : 0 < length fs → 0 < w
+  first-waits some = by fs refl where
+    by : (gs : List First) → gs ≡ fs → 0 < w
+    by [] same = absurd (omega (arith, ap length same))
+    by (f ∷ gs) same =
+        let rank = (get_or fs 0 f).rank in
+        let counted = k.counted in
+        let one = found-some (waits_as rank) is_waiting ss (λ s is. first_so (is_waiting s) (eqb s.rank rank) is)
+        (led-some (find (waits_as rank) ss) (get_or fs 0 f).place (lead-of f some)) in
+        omega arith where
+          led-some : (o : Option (Slot M A)) (place : ℕ) → option_map place_of o ≡ Some place → is_some o ≡ true
+          led-some None place is = absurd (cc (is))
+          led-some (Some t) place is = refl
+
   -- the first of the lowest rank is there
   pub first-there : (f : First) → 0 < length fs → All (λ (s : Slot M A). place_of s ≢ (get_or fs 0 f).place) ss → ⊥
   first-there f some differ = at (find (waits_as (get_or fs 0 f).rank) ss) refl (lead-of f some) where
     at : (o : Option (Slot M A)) → find (waits_as (get_or fs 0 f).rank) ss ≡ o →
         option_map place_of o ≡ Some (get_or fs 0 f).place → ⊥
     at None found is = absurd (cc)
-    at (Some t) found is = All-found (λ (s : Slot M A). place_of s ≢ (get_or fs 0 f).place) (waits_as (get_or fs 0 f).rank) ss t differ
+    at (Some t) found is = All-found (λ (s : Slot M A). place_of s ≢ (get_or fs 0 f).place) (waits_as
+        (get_or fs 0 f).rank) ss t differ
         found (same_Some (place_of t) (get_or fs 0 f).place is)
 
   -- and is served first

@@ -1,5 +1,5 @@
 -- Inner: no contract of a top call is made of this file.
-use Rattle.std.specs.Prelude.{◌≡◌, ℕ, ◌+◌, ◌<◌, ◌≤◌, ℤ, negsuc, ◌-ℤ◌, ◌≤ℤ◌, unsigned_abs, Bool, true, false, not, ◌==◌, ◌&&◌, if◌then◌else◌, Option, Some, None, option_map, is_some, List, length, map, filter, filter_map, All, AllPairs}
+use Rattle.std.specs.Prelude.{◌≡◌, ◌⊎◌, ℕ, ◌+◌, ◌<◌, ◌≤◌, ℤ, negsuc, ◌-ℤ◌, ◌≤ℤ◌, unsigned_abs, Bool, true, false, not, ◌==◌, ◌&&◌, if◌then◌else◌, Option, Some, None, option_map, is_some, List, length, map, filter, filter_map, All, AllPairs}
 use Rattle.std.specs.List.{find, list_any}
 use Rattle.std.specs.Option.{option_map_or}
 use Rattle.zk_base.specs.declared.waits.Decision.{Decision}
@@ -7,6 +7,7 @@ use Rattle.zk_base.specs.declared.slots.Slot.{Slot}
 use Rattle.zk_base.specs.declared.slots.Stage.{Stage}
 use Rattle.zk_base.specs.declared.slots.Stage.TheVariants.{Waits, Decided, Ended}
 use Rattle.zk_base.specs.declared.leaders.First.{First}
+use Rattle.zk_base.specs.declared.span.Span.{Span}
 use Rattle.zk_base.specs.Order.{by_key, put_by}
 use Rattle.zk_base.specs.Waits.{Waits as AllWaits, decide}
 
@@ -107,6 +108,10 @@ module _ {M A : Type 0} where
   abbrev pub leads : ℕ → List (Slot M A) → Option ℕ
   leads rank slots = option_map place_of (find (waits_as rank) slots)
 
+  -- those that have ended are taken out, so that none of them is left, or not
+  abbrev pub IsClosedUp : List (Slot M A) → ℕ → List (Slot M A) → ℕ → Type 0
+  IsClosedUp slots ended kept left = (kept ≡ slots) × (left ≡ ended) ⊎ (kept ≡ filter is_open slots) × (left ≡ 0)
+
 -- The first of each rank.
 
 abbrev pub is_of : ℕ → First → Bool
@@ -134,15 +139,36 @@ abbrev pub passed_on : ℕ → ℕ → Option ℕ → List First → List First
 passed_on rank place next firsts =
     if option_map_or (λ first. first == place) (first_of rank firsts) false then replaced rank next firsts else firsts
 
--- what holds of the waits that are kept, of the firsts, of how many go on and how many have ended, of a number above all
--- places, and of how many decisions there were
+-- What holds of the waits that are kept, of the firsts, of how many go on and how many have ended, of a number above all places,
+-- and of how many decisions there were.
 pub record IsKept {M A : Type 0} (slots : List (Slot M A)) (firsts : List First) (waiting ended next decisions : ℕ) : Type 0 where
+  -- the lowest place first, all below the number
   pub rises : Rises place_of slots
   pub below : All (λ s. place_of s < next) slots
+  -- each rank is that of the priority, and each number that of a decision
   pub ranked : All IsRanked slots
   pub numbered : All (λ s. s.number ≤ decisions) slots
+  -- the firsts are those of their ranks, one a rank
   pub leaders : (rank : ℕ) → first_of rank firsts ≡ leads rank slots
   pub ordered : Rises (λ f. f.rank) firsts
+  -- how many there are of each sort
   pub counted : length (filter is_waiting slots) ≡ waiting
   pub unended : length (filter has_answer slots) + waiting + ended ≡ length slots
   pub few : decisions + waiting ≤ next
+
+-- a place is among these
+abbrev pub IsIn : Span → ℕ → Type 0
+IsIn span place = (span.lowest ≤ place) × (place ≤ span.highest)
+
+-- where it is decided, it stands there
+abbrev pub IsToldIn : {M A : Type 0} → Span → Slot M A → Type 0
+IsToldIn told s = has_answer s ≡ true → IsIn told (place_of s)
+
+-- what holds of a list of waits
+pub record IsWaitList {M A : Type 0} (slots : List (Slot M A)) (firsts : List First) (waiting ended next decisions : ℕ)
+    (told : Span) : Type 0 where
+  pub kept : IsKept slots firsts waiting ended next decisions
+  -- at most half of them have ended
+  pub half : ended + ended ≤ length slots
+  -- those that are decided stand there
+  pub within : All (IsToldIn told) slots

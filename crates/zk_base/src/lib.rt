@@ -21,6 +21,7 @@ mod service;
 mod sink;
 mod slots;
 mod source;
+mod span;
 mod standard;
 mod store;
 mod text;

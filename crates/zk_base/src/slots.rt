@@ -1,5 +1,5 @@
-ghost use Rattle.std.specs.Prelude.{◌≡◌, ◌≢◌, ◌⊎◌, ◌+◌, ◌<◌, ◌≤◌, filter, drop, length, map, vec_len, vec_capacity, All, HoldsAt, IfSome, IfNone};
-ghost use Rattle.zk_base.specs.Slots.{IsPriority, rank_of, place_of, Rises, is_waiting, is_open, over, decided_as, decided_all, answer_for, waits_for, waits_as, leads, passed_on};
+ghost use Rattle.std.specs.Prelude.{◌≡◌, ◌≢◌, ◌+◌, ◌<◌, ◌≤◌, drop, length, map, vec_len, vec_capacity, All, HoldsAt, IfSome, IfNone};
+ghost use Rattle.zk_base.specs.Slots.{IsPriority, IsClosedUp, rank_of, place_of, Rises, is_waiting, is_open, over, decided_as, decided_all, answer_for, waits_for, waits_as, leads, passed_on};
 
 use crate::Who;
 use crate::leaders::{First, place_of_rank};
@@ -180,8 +180,8 @@ pub fn pass_on<M, A>(firsts: &mut Vec<First>, slots: &[Slot<M, A>], index: usize
 
 /// Takes the waits out that have ended, where they are more than half. How many of those there are then.
 pub fn close_up<M: Drop, A: Drop>(slots: &mut Vec<Slot<M, A>>, ended: usize) -> usize
-    ensures slots { (slots.new.items ≡ slots.old.items) × (result ≡ ended)
-        ⊎ (slots.new.items ≡ filter is_open slots.old.items) × (result ≡ 0) }
+    ensures slots { IsClosedUp slots.old.items ended slots.new.items result }
+    ensures half { result + result ≤ length slots.new.items }
     ensures len { vec_len slots.new ≤ vec_len slots.old }
     ensures capacity { vec_capacity slots.new ≡ vec_capacity slots.old }
 {

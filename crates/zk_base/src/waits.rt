@@ -6,6 +6,7 @@ use crate::slots::{
     Slot, Stage, answer_for, close_up, decide_each, decided_as, index_of, over, pass_on, rank_of,
     waits_for,
 };
+use crate::span::Span;
 use crate::{NoMemory, Who, push_within};
 use std::alloc::Global;
 use std::marker::Model;
@@ -49,12 +50,14 @@ pub struct WaitList<M: Drop, A: Drop> {
     next: u64,
     // How many decisions there were: those that were made at once count as one.
     decisions: u64,
+    // Where all stand that are decided.
+    told: Span,
 }
 
 impl<M: Drop, A: Drop> Model for WaitList<M, A> {
     ghost use Rattle.std.specs.Prelude.{◌-◌, min, vec_len, vec_capacity};
     ghost use Rattle.zk_base.specs.Waits.{WaitView};
-    ghost use Rattle.zk_base.specs.Slots.{IsKept, waits_in};
+    ghost use Rattle.zk_base.specs.Slots.{IsWaitList, waits_in};
 
     ghost Value = { WaitView M A };
 
@@ -64,7 +67,7 @@ impl<M: Drop, A: Drop> Model for WaitList<M, A> {
       next = l.next;
     } };
 
-    ghost invariant = { λ l. IsKept l.slots.items l.firsts.items l.waiting l.ended l.next l.decisions };
+    ghost invariant = { λ l. IsWaitList l.slots.items l.firsts.items l.waiting l.ended l.next l.decisions l.told };
 }
 
 impl<M: Drop + Copy, A: Drop + Copy> WaitList<M, A> {
@@ -80,6 +83,7 @@ impl<M: Drop + Copy, A: Drop + Copy> WaitList<M, A> {
             ended: 0,
             next: 0,
             decisions: 0,
+            told: Span::nothing(),
         }
     }
 
@@ -179,12 +183,14 @@ impl<M: Drop + Copy, A: Drop + Copy> WaitList<M, A> {
         if self.firsts.is_empty() {
             return;
         }
-        let Some(index) = index_of(&self.slots, self.firsts[0].place) else {
+        let place = self.firsts[0].place;
+        let Some(index) = index_of(&self.slots, place) else {
             return;
         };
         pass_on(&mut self.firsts, &self.slots, index);
         self.waiting -= 1;
         self.decisions += 1;
+        self.told = self.told.with(place);
         self.slots[index] = decided_as(self.decisions, answer, self.slots[index]);
     }
 
@@ -202,12 +208,17 @@ impl<M: Drop + Copy, A: Drop + Copy> WaitList<M, A> {
         decide_each(&mut self.slots, self.decisions, answer);
         self.firsts.clear();
         self.waiting = 0;
+        self.told = Span::everything();
     }
 
     /// Whether a wait is decided.
     pub fn is_decided(&self, player: u32, place: u64) -> bool
         ensures { result ≡ is_some (decision_of self.now.waits player place) }
     {
+        // (asked of each who waits, at each entry: nearly all are told so without a search)
+        if !self.told.holds(place) {
+            return false;
+        }
         match index_of(&self.slots, place) {
             Some(index) => answer_for(player, &self.slots[index]).is_some(),
             None => false,
@@ -227,6 +238,9 @@ impl<M: Drop + Copy, A: Drop + Copy> WaitList<M, A> {
         let answer = answer_for(player, &self.slots[index])?;
         self.slots[index] = over(self.slots[index]);
         self.ended = close_up(&mut self.slots, self.ended + 1);
+        self.told = self
+            .told
+            .where_any(self.slots.len() != self.waiting + self.ended);
         Some(answer)
     }
 

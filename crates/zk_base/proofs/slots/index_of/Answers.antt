@@ -21,4 +21,5 @@ returns-then-slots-index-clause-none g c =
     let point = IsPartitionPoint-from_clause (λ (s : Slot g.row.M.Denot g.row.A.Denot). ltb (place_of s) c.args.place) _ _
     c.partition_point-index.ensures.partitioned (parted place_of c.args.place ss c.requires) (λ a r q k. search rules) in
     nowhere place_of c.args.place i ss c.requires point
-    (λ d within is. c.if-slots-index.true (ap (λ (s : Slot g.row.M.Denot g.row.A.Denot). place_of s) (get_or_default ss i _ d within) ∙ is))
+    (λ d within is. c.if-slots-index.true (ap (λ (s : Slot g.row.M.Denot g.row.A.Denot). place_of s)
+        (get_or_default ss i _ d within) ∙ is))
