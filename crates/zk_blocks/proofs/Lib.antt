@@ -2,6 +2,7 @@ pub mod Blocks
 pub mod Made
 pub mod Joined
 pub mod Rows
+pub mod Counted
 pub mod Headed
 pub mod Sections
 pub mod Each
