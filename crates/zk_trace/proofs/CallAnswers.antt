@@ -88,84 +88,108 @@ module _ (decls : List Decl) where
   fixed_answers step = []
 
   -- what else it may answer suits a word
+  abbrev OpenSuits : {R : Type 0} → Word → (R → Answer) → (R → Type 0) → Type 0
+  OpenSuits {R} word answer FitsOpen = (r : R) → FitsOpen r → Suits decls word (answer r)
+
   abbrev OthersSuit : Word → Step → Type 0
-  OthersSuit word (steps.Work op) = (r : WorkReply) → work_read.FitsOpen decls (work.said_of op).0 r → Suits decls word (work_answer r)
-  OthersSuit word (steps.Table op) = (r : TableReply) → table_read.FitsOpen decls (table.said_of op).0 r → Suits decls word (table_answer r)
-  OthersSuit word (steps.Sem object op) = (r : SemReply) → sem_read.FitsOpen decls (sem.said_of op).0 r → Suits decls word (sem_answer r)
-  OthersSuit word (steps.Msgq object op) = (r : MsgqReply) → msgq_read.FitsOpen decls (msgq.said_of op).0 r → Suits decls word (msgq_answer r)
-  OthersSuit word (steps.Chan object op) = (r : ChanReply) → chan_read.FitsOpen decls (chan.said_of op).0 r → Suits decls word (chan_answer r)
-  OthersSuit word (steps.Obs object op) = (r : ObsReply) → obs_read.FitsOpen decls (obs.said_of op).0 r → Suits decls word (obs_answer r)
-  OthersSuit word step = (r : StepReply) → Told decls step r → Suits decls word (answer_of r)
+  OthersSuit word (steps.Work op) = OpenSuits word work_answer (work_read.FitsOpen decls (work.said_of op).0)
+  OthersSuit word (steps.Table op) = OpenSuits word table_answer (table_read.FitsOpen decls (table.said_of op).0)
+  OthersSuit word (steps.Sem object op) = OpenSuits word sem_answer (sem_read.FitsOpen decls (sem.said_of op).0)
+  OthersSuit word (steps.Msgq object op) = OpenSuits word msgq_answer (msgq_read.FitsOpen decls (msgq.said_of op).0)
+  OthersSuit word (steps.Chan object op) = OpenSuits word chan_answer (chan_read.FitsOpen decls (chan.said_of op).0)
+  OthersSuit word (steps.Obs object op) = OpenSuits word obs_answer (obs_read.FitsOpen decls (obs.said_of op).0)
+  OthersSuit word step = OpenSuits word answer_of (Told decls step)
 
   -- what a word can be refused with suits it
-  refusals-suit : (word : Word) (errnos : List Errno) → ((e : Errno) → IsIn e errnos → IsIn e (refusals word)) → AllByRecursion (Suits decls word) (map answers.Refused errnos)
+  refusals-suit : (word : Word) (errnos : List Errno) → ((e : Errno) → IsIn e errnos → IsIn e (refusals word)) →
+      AllByRecursion (Suits decls word) (map answers.Refused errnos)
   refusals-suit word [] each = tt
   refusals-suit word (e ∷ es) each = (λ sized. inl (each e (inl refl)), refusals-suit word es (λ x is. each x (inr is)))
 
-  -- what a step answers is of its word: some answers that suit it, its refusals, and others that suit it
+  -- what a step answers suits a word: some answers that suit it, then its refusals, and others that suit it
   module _ (word : Word) (first : List Answer) (each : AllByRecursion (Suits decls word) first) where
-    reply-suits : {R : Type 0} (FitsOpen : R → Type 0) (answer : R → Answer) (fixed : List R) → map answer fixed ≡ first ++ map answers.Refused (refusals word) →
-        ((r : R) → FitsOpen r → Suits decls word (answer r)) → (r : R) → IsIn r fixed ⊎ FitsOpen r → Suits decls word (answer r)
-    reply-suits FitsOpen answer fixed same others r (inl is) =
-        let all = all-append (Suits decls word) first (map answers.Refused (refusals word)) each (refusals-suit word (refusals word) (λ e is. is)) in
-        in-each (Suits decls word) (map answer fixed) (subst (AllByRecursion (Suits decls word)) (sym same) all) (answer r) (in-map answer fixed r is)
-    reply-suits FitsOpen answer fixed same others r (inr fits) = others r fits
+    abbrev expected : List Answer
+    expected = first ++ map answers.Refused (refusals word)
 
-    told-suits : (step : Step) → fixed_answers step ≡ first ++ map answers.Refused (refusals word) → OthersSuit word step → (r : StepReply) → Told decls step r → Suits decls word (answer_of r)
-    told-suits (steps.Work op) same others (step_replies.Work r place) told = let verb = (work.said_of op).0 in reply-suits (work_read.FitsOpen decls verb) work_answer (work_read.fixed_replies verb) same others r told
-    told-suits (steps.Table op) same others (step_replies.Table r place) told = let verb = (table.said_of op).0 in reply-suits (table_read.FitsOpen decls verb) table_answer (table_read.fixed_replies verb) same others r told
-    told-suits (steps.Sem object op) same others (step_replies.Sem at r place) told = let verb = (sem.said_of op).0 in reply-suits (sem_read.FitsOpen decls verb) sem_answer (sem_read.fixed_replies verb) same others r told
-    told-suits (steps.Msgq object op) same others (step_replies.Msgq at r place) told = let verb = (msgq.said_of op).0 in reply-suits (msgq_read.FitsOpen decls verb) msgq_answer (msgq_read.fixed_replies verb) same others r told
-    told-suits (steps.Chan object op) same others (step_replies.Chan at r place) told = let verb = (chan.said_of op).0 in reply-suits (chan_read.FitsOpen decls verb) chan_answer (chan_read.fixed_replies verb) same others r told
-    told-suits (steps.Obs object op) same others (step_replies.Obs at r place) told = let verb = (obs.said_of op).0 in reply-suits (obs_read.FitsOpen decls verb) obs_answer (obs_read.fixed_replies verb) same others r told
+    expected-suit : AllByRecursion (Suits decls word) expected
+    expected-suit =
+        all-append (Suits decls word) first (map answers.Refused (refusals word)) each
+        (refusals-suit word (refusals word) (λ e is. is))
+
+    reply-suits : {R : Type 0} {FitsOpen : R → Type 0} (answer : R → Answer) (fixed : List R) → map answer fixed ≡ expected →
+        OpenSuits word answer FitsOpen → (r : R) → IsIn r fixed ⊎ FitsOpen r → Suits decls word (answer r)
+    reply-suits answer fixed same others r (inl is) =
+        in-each (Suits decls word) (map answer fixed) (subst (AllByRecursion (Suits decls word)) (sym same) expected-suit)
+        (answer r) (in-map answer fixed r is)
+    reply-suits answer fixed same others r (inr fits) = others r fits
+
+    told-suits : (step : Step) → fixed_answers step ≡ expected → OthersSuit word step →
+        (r : StepReply) → Told decls step r → Suits decls word (answer_of r)
+    told-suits (steps.Work op) same others (step_replies.Work r place) told =
+        reply-suits work_answer (work_read.fixed_replies (work.said_of op).0) same others r told
+    told-suits (steps.Table op) same others (step_replies.Table r place) told =
+        reply-suits table_answer (table_read.fixed_replies (table.said_of op).0) same others r told
+    told-suits (steps.Sem object op) same others (step_replies.Sem at r place) told =
+        reply-suits sem_answer (sem_read.fixed_replies (sem.said_of op).0) same others r told
+    told-suits (steps.Msgq object op) same others (step_replies.Msgq at r place) told =
+        reply-suits msgq_answer (msgq_read.fixed_replies (msgq.said_of op).0) same others r told
+    told-suits (steps.Chan object op) same others (step_replies.Chan at r place) told =
+        reply-suits chan_answer (chan_read.fixed_replies (chan.said_of op).0) same others r told
+    told-suits (steps.Obs object op) same others (step_replies.Obs at r place) told =
+        reply-suits obs_answer (obs_read.fixed_replies (obs.said_of op).0) same others r told
     told-suits (steps.Clock op) same others r told = others r told
     told-suits (steps.Signal object op) same others r told = others r told
     told-suits (steps.LookItem object) same others r told = others r told
     told-suits (steps.LookSignal object must) same others r told = others r told
     told-suits step same others r told = absurd told
 
-    one-suits : (step : Step) → fixed_answers step ≡ first ++ map answers.Refused (refusals word) → OthersSuit word step → (stage : Stage) (k : ℕ) (made : Step) (reply : StepReply) →
-        slice_get (plan_attempts (One step) stage) k ≡ Some made → Told decls made reply → Suits decls word (answer_of reply)
-    one-suits step same others stages.Start k made reply ahead told = told-suits step same others reply (subst (λ (x : Step). Told decls x reply) (sym (slice_get-one step made k ahead)) told)
+    one-suits : (step : Step) → fixed_answers step ≡ expected → OthersSuit word step →
+        (stage : Stage) (k : ℕ) (made : Step) (reply : StepReply) → slice_get (plan_attempts (One step) stage) k ≡ Some made →
+        Told decls made reply → Suits decls word (answer_of reply)
+    one-suits step same others stages.Start k made reply ahead told =
+        let only : step ≡ made = slice_get-one step made k ahead in
+        told-suits step same others reply (subst (λ (x : Step). Told decls x reply) (sym only) told)
     one-suits step same others stage k made reply ahead told = absurd (cc)
 
   -- What isn't the same in each line.
 
-  admitted-suits : (word : Word) → Counts word → (r : WorkReply) → work_read.FitsSub decls r → Suits decls word (work_answer r)
+  admitted-suits : (word : Word) → Counts word → OpenSuits word work_answer (work_read.FitsSub decls)
   admitted-suits word counts (replies.Sub (submissions.Fresh number queue)) fits = counts 1
   admitted-suits word counts (replies.Sub (submissions.Rerun number queue)) fits = counts 2
   admitted-suits word counts (replies.Sub submitted) fits = absurd fits
   admitted-suits word counts r fits = absurd fits
 
-  flags-suit : (r : WorkReply) → work_read.FitsOpen decls work_verbs.Cancel r → Suits decls words.Cancel (work_answer r)
+  flags-suit : OpenSuits words.Cancel work_answer (work_read.FitsOpen decls work_verbs.Cancel)
   flags-suit (replies.Flags flags) fits = λ sized. inr (inr fits)
   flags-suit r fits = absurd fits
 
-  time-suits : (word : Word) → Counts word → (r : WorkReply) → work_read.FitsNumber r → Suits decls word (work_answer r)
+  time-suits : (word : Word) → Counts word → OpenSuits word work_answer work_read.FitsNumber
   time-suits word counts (replies.Number number) fits = counts number
   time-suits word counts r fits = absurd fits
 
-  busy-suits : (item : ℕ) (r : StepReply) → Told decls (steps.LookItem item) r → Suits decls words.Busy (answer_of r)
+  busy-suits : (item : ℕ) → OpenSuits words.Busy answer_of (Told decls (steps.LookItem item))
   busy-suits item (step_replies.Flags flags at) told = λ sized. inr (inr told)
   busy-suits item r told = absurd told
 
-  count-suits : (r : SemReply) → sem_read.FitsOpen decls sem_verbs.Count r → Suits decls words.Count (sem_answer r)
+  count-suits : OpenSuits words.Count sem_answer (sem_read.FitsOpen decls sem_verbs.Count)
   count-suits (sem_replies.Number number) fits = λ sized. inr (inr sized)
   count-suits r fits = absurd fits
 
-  message-suits : (word : Word) → ((message : List ℕ) → IsMessage message → FitsAnswer decls word (answers.Bytes message)) → (r : MsgqReply) → msgq_read.IsBytes r → Suits decls word (msgq_answer r)
+  message-suits : (word : Word) → ((message : List ℕ) → IsMessage message → FitsAnswer decls word (answers.Bytes message)) →
+      OpenSuits word msgq_answer msgq_read.IsBytes
   message-suits word each (msgq_replies.Bytes message) fits = λ sized. each message fits
   message-suits word each r fits = absurd fits
 
-  room-suits : (word : Word) → Counts word → (r : MsgqReply) → msgq_read.IsNumber r → Suits decls word (msgq_answer r)
+  room-suits : (word : Word) → Counts word → OpenSuits word msgq_answer msgq_read.IsNumber
   room-suits word counts (msgq_replies.Number number) fits = counts number
   room-suits word counts r fits = absurd fits
 
-  write-suits : (object : ℕ) (op : SignalOp) (word : Word) → Counts word → (r : StepReply) → Told decls (steps.Signal object op) r → Suits decls word (answer_of r)
+  write-suits : (object : ℕ) (op : SignalOp) (word : Word) → Counts word →
+      OpenSuits word answer_of (Told decls (steps.Signal object op))
   write-suits object op word counts (step_replies.Signal at r place) told = counts 0
   write-suits object op word counts r told = absurd told
 
-  check-suits : (object : ℕ) (must : Bool) (r : StepReply) → Told decls (steps.LookSignal object must) r → Suits decls words.Check (answer_of r)
+  check-suits : (object : ℕ) (must : Bool) → OpenSuits words.Check answer_of (Told decls (steps.LookSignal object must))
   check-suits object must (step_replies.Seen seen) told = λ sized. inr (inr (told, sized))
   check-suits object must r told = absurd told
 
@@ -211,37 +235,53 @@ module _ (decls : List Decl) where
     by reply told = absurd told
   tick-suits ticks stage k made reply ahead told = absurd (cc)
 
+  -- whether something ran, or was waited for
+  abbrev truths : List Answer
+  truths = answers.Truth true ∷ answers.Truth false ∷ []
+
+  -- done with 0, or with 0 or 1
+  abbrev zero_one : List Answer
+  zero_one = answers.Number 0 ∷ answers.Number 1 ∷ []
+
   -- All calls.
 
   -- what a step of a call does to it suits it
   pub call-suits : (call : Call) (stage : Stage) (k : ℕ) (made : Step) (reply : StepReply) → StageSuits decls stage (plan_of decls call) → slice_get (plan_attempts (plan_of decls call) stage) k ≡ Some made → Told decls made reply →
       ProgressSuits decls (plan_of decls call) (plan_progress (word_of call) (plan_of decls call) stage made reply)
   call-suits (calls.Submit item queue) stage k made reply suits ahead told =
-      one-suits words.Submit (answers.Number 0 ∷ []) (λ sized. inr (inr sized), tt) _ refl (admitted-suits words.Submit (λ n sized. inr (inr sized))) stage k made reply ahead told
+      one-suits words.Submit (answers.Number 0 ∷ []) (λ sized. inr (inr sized), tt) _ refl
+      (admitted-suits words.Submit (λ n sized. inr (inr sized))) stage k made reply ahead told
   call-suits (calls.Cancel item) stage k made reply suits ahead told =
       one-suits words.Cancel [] tt _ refl flags-suit stage k made reply ahead told
   call-suits (calls.CancelSync item) stage k made reply suits ahead told =
       let op : WorkOp = ops.CancelStart (ref_number decls item) in
-      pair-suits words.CancelSync op closings.Cancel stage k made reply (cancel_start-opens (Pair (steps.Work op) closings.Cancel))
-      (λ place. told-suits words.CancelSync (answers.Truth true ∷ answers.Truth false ∷ []) (λ sized. inr (inr tt), (λ sized. inr (inr tt), tt)) (steps.Work (ops.CancelDone place)) refl (λ r none. absurd none))
+      pair-suits words.CancelSync op closings.Cancel stage k made reply
+      (cancel_start-opens (Pair (steps.Work op) closings.Cancel))
+      (λ place. told-suits words.CancelSync truths (λ sized. inr (inr tt), (λ sized. inr (inr tt), tt))
+      (steps.Work (ops.CancelDone place)) refl (λ r none. absurd none))
       ahead told
   call-suits (calls.Flush item) stage k made reply suits ahead told =
       let op : WorkOp = ops.FlushStart (ref_number decls item) in
       pair-suits words.Flush op closings.Flush stage k made reply (flush_start-opens (Pair (steps.Work op) closings.Flush))
-      (λ place. told-suits words.Flush (answers.Truth true ∷ answers.Truth false ∷ []) (λ sized. inr (inr tt), (λ sized. inr (inr tt), tt)) (steps.Work (ops.FlushDone place)) refl (λ r none. absurd none))
+      (λ place. told-suits words.Flush truths (λ sized. inr (inr tt), (λ sized. inr (inr tt), tt))
+      (steps.Work (ops.FlushDone place)) refl (λ r none. absurd none))
       ahead told
   call-suits (calls.Schedule item queue delay) stage k made reply suits ahead told =
-      one-suits words.Schedule (answers.Number 0 ∷ answers.Number 1 ∷ []) (λ sized. inr (inr sized), (λ sized. inr (inr sized), tt)) _ refl (admitted-suits words.Schedule (λ n sized. inr (inr sized))) stage k made reply ahead told
+      one-suits words.Schedule zero_one (λ sized. inr (inr sized), (λ sized. inr (inr sized), tt)) _ refl
+      (admitted-suits words.Schedule (λ n sized. inr (inr sized))) stage k made reply ahead told
   call-suits (calls.Reschedule item queue delay) stage k made reply suits ahead told =
-      one-suits words.Reschedule (answers.Number 0 ∷ answers.Number 1 ∷ []) (λ sized. inr (inr sized), (λ sized. inr (inr sized), tt)) _ refl (admitted-suits words.Reschedule (λ n sized. inr (inr sized))) stage k made reply ahead told
+      one-suits words.Reschedule zero_one (λ sized. inr (inr sized), (λ sized. inr (inr sized), tt)) _ refl
+      (admitted-suits words.Reschedule (λ n sized. inr (inr sized))) stage k made reply ahead told
   call-suits (calls.Remaining item) stage k made reply suits ahead told =
-      one-suits words.Remaining [] tt _ refl (time-suits words.Remaining (λ n sized. inr (inr sized))) stage k made reply ahead told
+      one-suits words.Remaining [] tt _ refl
+      (time-suits words.Remaining (λ n sized. inr (inr sized))) stage k made reply ahead told
   call-suits (calls.Busy item) stage k made reply suits ahead told =
       one-suits words.Busy [] tt _ refl (busy-suits (ref_object item)) stage k made reply ahead told
   call-suits (calls.Drain queue plug) stage k made reply suits ahead told =
       let op : WorkOp = ops.DrainStart (ref_number decls queue) plug in
       pair-suits words.Drain op closings.Drain stage k made reply (drain_start-opens (Pair (steps.Work op) closings.Drain))
-      (λ place. told-suits words.Drain [] tt (steps.Work (ops.DrainDone place)) refl (time-suits words.Drain (λ n sized. inr (inr sized))))
+      (λ place. told-suits words.Drain [] tt (steps.Work (ops.DrainDone place)) refl
+      (time-suits words.Drain (λ n sized. inr (inr sized))))
       ahead told
   call-suits (calls.Tick ticks) stage k made reply suits ahead told = tick-suits ticks stage k made reply ahead told
   call-suits (calls.Take object timeout) stage k made reply suits ahead told =
@@ -258,15 +298,19 @@ module _ (decls : List Decl) where
   call-suits (calls.Peek object) stage k made reply suits ahead told =
       one-suits words.Peek [] tt _ refl (message-suits words.Peek (λ message fits. inr (inr fits))) stage k made reply ahead told
   call-suits (calls.PeekAt object index) stage k made reply suits ahead told =
-      one-suits words.PeekAt [] tt _ refl (message-suits words.PeekAt (λ message fits. inr (inr fits))) stage k made reply ahead told
+      one-suits words.PeekAt [] tt _ refl
+      (message-suits words.PeekAt (λ message fits. inr (inr fits))) stage k made reply ahead told
   call-suits (calls.Used object) stage k made reply suits ahead told =
       one-suits words.Used [] tt _ refl (room-suits words.Used (λ n sized. inr (inr sized))) stage k made reply ahead told
   call-suits (calls.Free object) stage k made reply suits ahead told =
       one-suits words.Free [] tt _ refl (room-suits words.Free (λ n sized. inr (inr sized))) stage k made reply ahead told
   call-suits (calls.Raise object value) stage k made reply suits ahead told =
-      one-suits words.Raise [] tt _ refl (write-suits (ref_object object) (signal_ops.Raise value) words.Raise (λ n sized. inr (inr sized))) stage k made reply ahead told
+      let op : SignalOp = signal_ops.Raise value in
+      one-suits words.Raise [] tt _ refl
+      (write-suits (ref_object object) op words.Raise (λ n sized. inr (inr sized))) stage k made reply ahead told
   call-suits (calls.Clear object) stage k made reply suits ahead told =
-      one-suits words.Clear [] tt _ refl (write-suits (ref_object object) signal_ops.Clear words.Clear (λ n sized. inr (inr sized))) stage k made reply ahead told
+      one-suits words.Clear [] tt _ refl
+      (write-suits (ref_object object) signal_ops.Clear words.Clear (λ n sized. inr (inr sized))) stage k made reply ahead told
   call-suits (calls.Check object) stage k made reply suits ahead told =
       one-suits words.Check [] tt _ refl (check-suits (ref_object object) false) stage k made reply ahead told
   call-suits (calls.Poll timeout events) stage k made reply suits ahead told = poll-suits decls timeout events stage made reply suits
@@ -284,4 +328,5 @@ module _ (decls : List Decl) where
       channel-suits decls words.Read (ref_object object) Read timeout (read-fits decls (ref_object object) timeout) stage k made reply suits ahead told
   -- the others are of one step that is done, or refused as its word can be
   call-suits call stage k made reply suits ahead told =
-      one-suits (word_of call) (answers.Number 0 ∷ []) (λ sized. inr (inr sized), tt) _ refl (λ r none. absurd none) stage k made reply ahead told
+      one-suits (word_of call) (answers.Number 0 ∷ []) (λ sized. inr (inr sized), tt) _ refl
+      (λ r none. absurd none) stage k made reply ahead told

@@ -51,7 +51,8 @@ module _ (decls : List Decl) where
   -- A reply.
 
   -- a put is done, or told what one is told that finds no room
-  put-told : (waiting : List (Waiter Unit)) (q : Msgq) (waits : Bool) → IsIn (put_reply waiting q waits) (Done ∷ else_reply waits ∷ [])
+  put-told : (waiting : List (Waiter Unit)) (q : Msgq) (waits : Bool) →
+      IsIn (put_reply waiting q waits) (Done ∷ else_reply waits ∷ [])
   put-told (w ∷ ws) q waits = inl refl
   put-told [] q waits = by (nat_lt (length q.messages) q.most) where
     by : (b : Bool) → IsIn (cond b Done (else_reply waits)) (Done ∷ else_reply waits ∷ [])
@@ -93,8 +94,10 @@ module _ (decls : List Decl) where
 
   says : (q : Msgq) (who : Who) (op : MsgqOp) (r : MsgqReply) → Keeps q → FitsOp decls op → msgq_reply q who op ≡ Some r → Says op r
   says q who (ops.Put message waits) r kept fits is =
-      λ sized. inl (put-says waits r (subst (λ r. IsIn r (Done ∷ else_reply waits ∷ [])) (same_Some (put_reply q.gets.waiting q waits) r is) (put-told q.gets.waiting q waits)))
-  says q who (ops.PutFront message) r kept fits is = λ sized. inl (subst Put (same_Some (put_reply q.gets.waiting q false) r is) (put-told q.gets.waiting q false))
+      let told = same_Some (put_reply q.gets.waiting q waits) r is in
+      λ sized. inl (put-says waits r (subst (λ r. IsIn r (Done ∷ else_reply waits ∷ [])) told (put-told q.gets.waiting q waits)))
+  says q who (ops.PutFront message) r kept fits is =
+      λ sized. inl (subst Put (same_Some (put_reply q.gets.waiting q false) r is) (put-told q.gets.waiting q false))
   says q who (ops.PutEnd place) r kept fits is = λ sized. inl (decision-by Put q.puts who.number place r kept.puts is)
   says q who (ops.PutQuit place) r kept fits is =
       λ sized. inl (quit-by Put (λ r. IsIn r (Done ∷ NoMsg ∷ Again ∷ [])) put-too Again q.puts who.number place r (inr (inr (inl refl))) kept.puts is)
@@ -133,13 +136,24 @@ module _ (decls : List Decl) where
   -- one message more, and a poller that is told
   more-keeps : (q : Msgq) (messages : List (List ℕ)) → All IsMessage messages → Keeps q →
       Keeps (record q { messages = messages; pollers = first_decided Noted q.pollers })
-  more-keeps q messages all kept =
-      record { messages = all; held = kept.held; puts = kept.puts; gets = kept.gets; pollers = first_decided-by Told Noted q.pollers (inl refl) kept.pollers }
+  more-keeps q messages all kept = record {
+    messages = all;
+    held = kept.held;
+    puts = kept.puts;
+    gets = kept.gets;
+    pollers = first_decided-by Told Noted q.pollers (inl refl) kept.pollers;
+  }
 
   -- a get that waited has the message
-  handed-keeps : (q : Msgq) (message : List ℕ) → IsMessage message → Keeps q → Keeps (record q { gets = first_decided (Bytes message) q.gets })
-  handed-keeps q message fits kept =
-      record { messages = kept.messages; held = kept.held; puts = kept.puts; gets = first_decided-by IsBytes (Bytes message) q.gets fits kept.gets; pollers = kept.pollers }
+  handed-keeps : (q : Msgq) (message : List ℕ) → IsMessage message → Keeps q →
+      Keeps (record q { gets = first_decided (Bytes message) q.gets })
+  handed-keeps q message fits kept = record {
+    messages = kept.messages;
+    held = kept.held;
+    puts = kept.puts;
+    gets = first_decided-by IsBytes (Bytes message) q.gets fits kept.gets;
+    pollers = kept.pollers;
+  }
 
   put-keeps : (waiting : List (Waiter Unit)) (q : Msgq) (who : Who) (message : List ℕ) (waits : Bool) → IsMessage message → Keeps q → Keeps (put_to waiting q who message waits)
   put-keeps (w ∷ ws) q who message waits fits kept = handed-keeps q message fits kept

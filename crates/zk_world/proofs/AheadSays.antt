@@ -193,9 +193,13 @@ module _ (decls : List Decl) where
 
 -- What a call of a valid scenario says.
 
+-- what is declared has a size, which is one that a message may have
+abbrev Sized : Decl → Type 0
+Sized d = (size : ℕ) × (size_of d ≡ Some size) × (decl_fits d ≡ true → (nat_le 1 size && nat_le size longest_message) ≡ true)
+
 -- an object of messages has messages that aren't too long
 size-long : (decls : List Decl) (object : ℕ) (message : List ℕ) (test : Decl → Bool) → list_all decl_fits decls ≡ true → is_at test decls object ≡ true →
-    ((d : Decl) → test d ≡ true → (size : ℕ) × (size_of d ≡ Some size) × (decl_fits d ≡ true → (nat_le 1 size && nat_le size longest_message) ≡ true)) →
+    ((d : Decl) → test d ≡ true → Sized d) →
     is_size (size_at decls object) (length message) ≡ true → is_message message ≡ true
 size-long decls object message test fits is each long = by (slice_get decls object) refl is where
   by : (o : Option Decl) → slice_get decls object ≡ o → option_map_or test o false ≡ true → is_message message ≡ true
@@ -206,11 +210,11 @@ size-long decls object message test fits is each long = by (slice_get decls obje
       let same : length message ≡ sized.0 = eqb-true (length message) sized.0 (sym (ap (λ o. is_size o (length message)) size) ∙ long) in
       subst (λ (n : ℕ). (nat_le 1 n && nat_le n longest_message) ≡ true) (sym same) (sized.2 (list_all-at decl_fits decls object d fits there))
 
-msgq-size : (d : Decl) → is_msgq d ≡ true → (size : ℕ) × (size_of d ≡ Some size) × (decl_fits d ≡ true → (nat_le 1 size && nat_le size longest_message) ≡ true)
+msgq-size : (d : Decl) → is_msgq d ≡ true → Sized d
 msgq-size (decl_kinds.Msgq name size capacity raw) is = (size, refl, λ fits. (and_parts (nat_le 1 size && nat_le size longest_message) _ fits).0)
 msgq-size d is = absurd (cc)
 
-chan-size : (d : Decl) → is_chan d ≡ true → (size : ℕ) × (size_of d ≡ Some size) × (decl_fits d ≡ true → (nat_le 1 size && nat_le size longest_message) ≡ true)
+chan-size : (d : Decl) → is_chan d ≡ true → Sized d
 chan-size (decl_kinds.Chan name message valid observers) is = (
   length message,
   refl,
@@ -220,32 +224,41 @@ chan-size (decl_kinds.Chan name message valid observers) is = (
 chan-size d is = absurd (cc)
 
 -- an object that a call names is declared, and meets what is asked of it
-is-declared : (decls : List Decl) (asked : Need) (object : Ref) → ref_fits false decls asked object ≡ true → is_at (is_met asked) decls (ref_object object) ≡ true
+is-declared : (decls : List Decl) (asked : Need) (object : Ref) → ref_fits false decls asked object ≡ true →
+    is_at (is_met asked) decls (ref_object object) ≡ true
 is-declared decls asked (Known object) fits = fits
 is-declared decls asked (Unknown name) fits = absurd (cc)
 
 -- a message behind an object of messages isn't too long
 message-long : (decls : List Decl) (asked : Need) (object : Ref) (message : List ℕ) (more : Bool) → list_all decl_fits decls ≡ true →
-    ((d : Decl) → is_met asked d ≡ true → (size : ℕ) × (size_of d ≡ Some size) × (decl_fits d ≡ true → (nat_le 1 size && nat_le size longest_message) ≡ true)) →
-    (ref_fits false decls asked object && (is_size (size_named decls (args.Object object)) (length message) && more)) ≡ true → is_message message ≡ true
+    ((d : Decl) → is_met asked d ≡ true → Sized d) →
+    (ref_fits false decls asked object && (is_size (size_named decls (args.Object object)) (length message) && more)) ≡ true →
+    is_message message ≡ true
 message-long decls asked (Known object) message more each sized fits =
-    let parts = and_parts (is_at (is_met asked) decls object) (is_size (size_at decls object) (length message) && more) fits in
-    size-long decls object message (is_met asked) each parts.0 sized (and_parts (is_size (size_at decls object) (length message)) more parts.1).0
+    let long = is_size (size_at decls object) (length message) in
+    let parts = and_parts (is_at (is_met asked) decls object) (long && more) fits in
+    size-long decls object message (is_met asked) each parts.0 sized (and_parts long more parts.1).0
 message-long decls asked (Unknown name) message more each sized fits = absurd (cc)
 
-plan_of-says : (decls : List Decl) (call : Call) → list_all decl_fits decls ≡ true → call_fits false decls call ≡ true → PlanSays decls (plan_of decls call)
+plan_of-says : (decls : List Decl) (call : Call) → list_all decl_fits decls ≡ true → call_fits false decls call ≡ true →
+    PlanSays decls (plan_of decls call)
 plan_of-says decls (calls.Tick ticks) each fits = (tt, tt)
-plan_of-says decls (calls.Put queue message timeout) each fits = message-long decls needs.Msgq queue message (wait_fits timeout && true) each msgq-size fits
+plan_of-says decls (calls.Put queue message timeout) each fits =
+    message-long decls needs.Msgq queue message (wait_fits timeout && true) each msgq-size fits
 plan_of-says decls (calls.PutFront queue message) each fits = message-long decls needs.Msgq queue message true each msgq-size fits
 plan_of-says decls (calls.Mask chan observer on) each fits =
     let second = ref_fits false decls needs.Obs observer in
-    is-declared decls needs.Obs observer (and_parts second true (and_parts (ref_fits false decls needs.Chan chan) (second && true) fits).1).0
+    let parts = and_parts (ref_fits false decls needs.Chan chan) (second && true) fits in
+    is-declared decls needs.Obs observer (and_parts second true parts.1).0
 plan_of-says decls (calls.Publish chan message timeout) each fits =
     let more = wait_fits timeout && true in
-    let parts = and_parts (ref_fits false decls needs.Chan chan) (is_size (size_named decls (args.Object chan)) (length message) && more) fits in
+    let long = is_size (size_named decls (args.Object chan)) (length message) in
+    let parts = and_parts (ref_fits false decls needs.Chan chan) (long && more) fits in
     (is-declared decls needs.Chan chan parts.0, message-long decls needs.Chan chan message more each chan-size fits)
-plan_of-says decls (calls.Notify chan timeout) each fits = (is-declared decls needs.Chan chan (and_parts (ref_fits false decls needs.Chan chan) (wait_fits timeout && true) fits).0, tt)
-plan_of-says decls (calls.Read chan timeout) each fits = (is-declared decls needs.Chan chan (and_parts (ref_fits false decls needs.Chan chan) (wait_fits timeout && true) fits).0, tt)
+plan_of-says decls (calls.Notify chan timeout) each fits =
+    (is-declared decls needs.Chan chan (and_parts (ref_fits false decls needs.Chan chan) (wait_fits timeout && true) fits).0, tt)
+plan_of-says decls (calls.Read chan timeout) each fits =
+    (is-declared decls needs.Chan chan (and_parts (ref_fits false decls needs.Chan chan) (wait_fits timeout && true) fits).0, tt)
 plan_of-says decls call each fits = tt
 
 -- So does each attempt of its player.
