@@ -1,5 +1,5 @@
 -- The replies of a message queue are of their operations.
-use Rattle.std.proofs.Common.{◌≡◌, ℕ, ◌-◌, Bool, true, false, ◌⊎◌, inl, inr, cond, nat_lt, Option, Some, None, List, [], ◌∷◌, length, All, refl, sym, subst}
+use Rattle.std.proofs.Common.{◌≡◌, ℕ, ◌-◌, Bool, true, false, ◌⊎◌, inl, inr, cond, nat_lt, Option, Some, None, List, [], ◌∷◌, ◌++◌, length, All, refl, sym, subst}
 use Rattle.std.specs.List.{AllByRecursion, slice_get}
 use Rattle.std.specs.Option.{option_map_or}
 use Rattle.std.proofs.lemmas.List.Elements.{All-nil, All-head, All-tail, All-cons, All-push}
@@ -11,14 +11,13 @@ use Rattle.zk_base.specs.declared.ids.Entry.{Entry}
 use Rattle.zk_base.specs.declared.waits.Waiter.{Waiter}
 use Rattle.zk_base.specs.declared.waits.Decision.{Decision}
 use Rattle.zk_base.specs.Legal.{Replays}
-use Rattle.zk_base.specs.Waits.{Waits, is_served_after, is_waiter, ended, quitted, decides_first}
+use Rattle.zk_base.specs.Waits.{Waits, is_served_after, is_waiter, ended, quitted, first_decided, decides_first}
 use Rattle.zk_line.specs.declared.types.Decl.{Decl}
 use Rattle.zk_model_wait.specs.declared.msgq.MsgqOp.{MsgqOp}
 use Rattle.zk_model_wait.specs.declared.msgq.MsgqOp.TheVariants as ops
 use Rattle.zk_model_wait.specs.declared.msgq.MsgqReply.{MsgqReply}
-use Rattle.zk_model_wait.specs.declared.msgq.MsgqReply.TheVariants.{Done, NoMsg, Again, Bytes, Number, Noted, Plain}
+use Rattle.zk_model_wait.specs.declared.msgq.MsgqReply.TheVariants.{Done, NoMsg, Wait, Again, Bytes, Number, Noted, Plain}
 use Rattle.zk_model_wait.specs.Msgq.{Msgq, new_msgq, else_reply, put_reply, get_reply, peek_reply, poll_reply, msgq_reply, put_at_full, appended, put_to, prepended, put_front_to, moved_in, get_from, arm_at, msgq_changed, msgq_next, msgq_machine}
-use Rattle.zk_trace.specs.declared.msgq.Verb.TheVariants as verbs
 use Rattle.zk_blocks.specs.Choices.{IsIn}
 use Rattle.zk_trace.specs.Fields.{IsMessage}
 use Rattle.zk_trace.specs.Msgq.{said_of, reply_parts}
@@ -51,20 +50,20 @@ module _ (decls : List Decl) where
 
   -- A reply.
 
-  put-says : (message : List ℕ) (waiting : List (Waiter Unit)) (q : Msgq) (waits : Bool) → Says (ops.Put message waits) (put_reply waiting q waits)
-  put-says message (w ∷ ws) q waits sized = inl (inl refl)
-  put-says message [] q waits sized = by (nat_lt (length q.messages) q.most) waits where
-    by : (b waits : Bool) → AnswersTo decls verbs.Put (cond b Done (else_reply waits))
-    by true waits = inl (inl refl)
-    by false true = inl (inr (inr (inl refl)))
-    by false false = inl (inr (inl refl))
+  -- a put is done, or told what one is told that finds no room
+  put-told : (waiting : List (Waiter Unit)) (q : Msgq) (waits : Bool) →
+      IsIn (put_reply waiting q waits) (Done ∷ else_reply waits ∷ [])
+  put-told (w ∷ ws) q waits = inl refl
+  put-told [] q waits = by (nat_lt (length q.messages) q.most) where
+    by : (b : Bool) → IsIn (cond b Done (else_reply waits)) (Done ∷ else_reply waits ∷ [])
+    by true = inl refl
+    by false = inr (inl refl)
 
-  front-says : (message : List ℕ) (waiting : List (Waiter Unit)) (q : Msgq) → Says (ops.PutFront message) (put_reply waiting q false)
-  front-says message (w ∷ ws) q sized = inl (inl refl)
-  front-says message [] q sized = by (nat_lt (length q.messages) q.most) where
-    by : (b : Bool) → AnswersTo decls verbs.PutFront (cond b Done NoMsg)
-    by true = inl (inl refl)
-    by false = inl (inr (inl refl))
+  put-says : (waits : Bool) (r : MsgqReply) → IsIn r (Done ∷ else_reply waits ∷ []) → IsIn r (Done ∷ NoMsg ∷ Wait ∷ [])
+  put-says waits r (inl is) = inl is
+  put-says true r (inr (inl is)) = inr (inr (inl is))
+  put-says false r (inr (inl is)) = inr (inl is)
+  put-says waits r (inr (inr none)) = absurd none
 
   get-says : (messages : List (List ℕ)) (waits : Bool) → All IsMessage messages → Says (ops.Get waits) (get_reply messages waits)
   get-says (m ∷ ms) waits all sized = inr (All-head IsMessage m ms all)
@@ -94,8 +93,11 @@ module _ (decls : List Decl) where
   Given r = IsIn r (Again ∷ []) ⊎ IsBytes r
 
   says : (q : Msgq) (who : Who) (op : MsgqOp) (r : MsgqReply) → Keeps q → FitsOp decls op → msgq_reply q who op ≡ Some r → Says op r
-  says q who (ops.Put message waits) r kept fits is = subst (Says (ops.Put message waits)) (same_Some (put_reply q.gets.waiting q waits) r is) (put-says message q.gets.waiting q waits)
-  says q who (ops.PutFront message) r kept fits is = subst (Says (ops.PutFront message)) (same_Some (put_reply q.gets.waiting q false) r is) (front-says message q.gets.waiting q)
+  says q who (ops.Put message waits) r kept fits is =
+      let told = same_Some (put_reply q.gets.waiting q waits) r is in
+      λ sized. inl (put-says waits r (subst (λ r. IsIn r (Done ∷ else_reply waits ∷ [])) told (put-told q.gets.waiting q waits)))
+  says q who (ops.PutFront message) r kept fits is =
+      λ sized. inl (subst Put (same_Some (put_reply q.gets.waiting q false) r is) (put-told q.gets.waiting q false))
   says q who (ops.PutEnd place) r kept fits is = λ sized. inl (decision-by Put q.puts who.number place r kept.puts is)
   says q who (ops.PutQuit place) r kept fits is =
       λ sized. inl (quit-by Put (λ r. IsIn r (Done ∷ NoMsg ∷ Again ∷ [])) put-too Again q.puts who.number place r (inr (inr (inl refl))) kept.puts is)
@@ -131,45 +133,40 @@ module _ (decls : List Decl) where
       }
   full-keeps q who message false fits kept = kept
 
-  appended-keeps : (q : Msgq) (message : List ℕ) → IsMessage message → Keeps q → Keeps (appended q message)
-  appended-keeps q message fits kept = record {
-    messages = All-push IsMessage q.messages message kept.messages fits;
+  -- one message more, and a poller that is told
+  more-keeps : (q : Msgq) (messages : List (List ℕ)) → All IsMessage messages → Keeps q →
+      Keeps (record q { messages = messages; pollers = first_decided Noted q.pollers })
+  more-keeps q messages all kept = record {
+    messages = all;
     held = kept.held;
     puts = kept.puts;
     gets = kept.gets;
     pollers = first_decided-by Told Noted q.pollers (inl refl) kept.pollers;
   }
 
-  put-keeps : (waiting : List (Waiter Unit)) (q : Msgq) (who : Who) (message : List ℕ) (waits : Bool) → IsMessage message → Keeps q → Keeps (put_to waiting q who message waits)
-  put-keeps (w ∷ ws) q who message waits fits kept = record {
+  -- a get that waited has the message
+  handed-keeps : (q : Msgq) (message : List ℕ) → IsMessage message → Keeps q →
+      Keeps (record q { gets = first_decided (Bytes message) q.gets })
+  handed-keeps q message fits kept = record {
     messages = kept.messages;
     held = kept.held;
     puts = kept.puts;
     gets = first_decided-by IsBytes (Bytes message) q.gets fits kept.gets;
     pollers = kept.pollers;
   }
+
+  put-keeps : (waiting : List (Waiter Unit)) (q : Msgq) (who : Who) (message : List ℕ) (waits : Bool) → IsMessage message → Keeps q → Keeps (put_to waiting q who message waits)
+  put-keeps (w ∷ ws) q who message waits fits kept = handed-keeps q message fits kept
   put-keeps [] q who message waits fits kept = by (nat_lt (length q.messages) q.most) where
     by : (b : Bool) → Keeps (cond b (appended q message) (put_at_full q who message waits))
-    by true = appended-keeps q message fits kept
+    by true = more-keeps q (q.messages ++ message ∷ []) (All-push IsMessage q.messages message kept.messages fits) kept
     by false = full-keeps q who message waits fits kept
 
   front-keeps : (waiting : List (Waiter Unit)) (q : Msgq) (message : List ℕ) → IsMessage message → Keeps q → Keeps (put_front_to waiting q message)
-  front-keeps (w ∷ ws) q message fits kept = record {
-    messages = kept.messages;
-    held = kept.held;
-    puts = kept.puts;
-    gets = first_decided-by IsBytes (Bytes message) q.gets fits kept.gets;
-    pollers = kept.pollers;
-  }
+  front-keeps (w ∷ ws) q message fits kept = handed-keeps q message fits kept
   front-keeps [] q message fits kept = by (nat_lt (length q.messages) q.most) where
     by : (b : Bool) → Keeps (cond b (prepended q message) q)
-    by true = record {
-      messages = All-cons IsMessage message q.messages fits kept.messages;
-      held = kept.held;
-      puts = kept.puts;
-      gets = kept.gets;
-      pollers = first_decided-by Told Noted q.pollers (inl refl) kept.pollers;
-    }
+    by true = more-keeps q (message ∷ q.messages) (All-cons IsMessage message q.messages fits kept.messages) kept
     by false = kept
 
   first-held : (answer : MsgqReply) (waiting : List (Waiter (List ℕ))) (decided : List (Decision MsgqReply)) → All Holds waiting → All Holds (decides_first answer waiting decided).waiting

@@ -2,7 +2,7 @@ ghost use Rattle.std.specs.Prelude.{◌≡◌};
 ghost use Rattle.zk_trace.specs.Chan.{verb_word, said_of, op_words, reply_parts, reply_words};
 ghost use Rattle.zk_trace.specs.Sized.{AreSized};
 
-use crate::parts::{FixedWord, Lent, Named, Part, PartList, put_parts, put_said};
+use crate::parts::{FixedWord, Named, Part, PartList, put_parts, put_said};
 use crate::sizes::Sizes;
 use crate::spelled::Spelled;
 use zk_base::{Errno, NoMemory};
@@ -63,13 +63,13 @@ pub fn said_of(op: &ChanOp) -> (Verb, PartList<'_>)
     match op {
         ChanOp::Offer(message, waits) => (
             Verb::Offer,
-            PartList::two(Part::Bytes(Lent::of(message)), Part::Waits(*waits)),
+            PartList::two(Part::message(message), Part::Waits(*waits)),
         ),
         ChanOp::Enter(waits) => (Verb::Enter, PartList::one(Part::Waits(*waits))),
         ChanOp::Claim(waits) => (Verb::Claim, PartList::one(Part::Waits(*waits))),
         ChanOp::ClaimEnd(place) => (Verb::ClaimEnd, PartList::one(Part::Place(*place))),
         ChanOp::ClaimQuit(place) => (Verb::ClaimQuit, PartList::one(Part::Place(*place))),
-        ChanOp::Set(message) => (Verb::Set, PartList::one(Part::Bytes(Lent::of(message)))),
+        ChanOp::Set(message) => (Verb::Set, PartList::one(Part::message(message))),
         ChanOp::List => (Verb::List, PartList::none()),
         ChanOp::Get => (Verb::Get, PartList::none()),
         ChanOp::Free => (Verb::Free, PartList::none()),
@@ -92,7 +92,7 @@ pub fn reply_parts(reply: &ChanReply) -> PartList<'_>
         ChanReply::Again => PartList::one(Part::Refusal(Errno::Again)),
         ChanReply::NoMsg => PartList::one(Part::Refusal(Errno::NoMsg)),
         ChanReply::Observers(told) => PartList::one(Part::Objects(Named::of(told))),
-        ChanReply::Bytes(message) => PartList::one(Part::Bytes(Lent::of(message))),
+        ChanReply::Bytes(message) => PartList::one(Part::message(message)),
         ChanReply::Done => PartList::one(Part::Fixed(FixedWord::Done)),
         ChanReply::Inval => PartList::one(Part::Refusal(Errno::Inval)),
     }

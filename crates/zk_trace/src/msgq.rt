@@ -2,7 +2,7 @@ ghost use Rattle.std.specs.Prelude.{◌≡◌};
 ghost use Rattle.zk_trace.specs.Msgq.{verb_word, said_of, op_words, reply_parts, reply_words};
 ghost use Rattle.zk_trace.specs.Sized.{AreSized};
 
-use crate::parts::{FixedWord, Lent, Part, PartList, put_parts, put_said};
+use crate::parts::{FixedWord, Part, PartList, put_parts, put_said};
 use crate::sizes::Sizes;
 use crate::spelled::Spelled;
 use zk_base::{Errno, NoMemory};
@@ -75,14 +75,9 @@ pub fn said_of(op: &MsgqOp) -> (Verb, PartList<'_>)
     match op {
         MsgqOp::Put(message, waits) => (
             Verb::Put,
-            PartList::two(Part::Bytes(Lent::of(message)), Part::Waits(*waits)),
+            PartList::two(Part::message(message), Part::Waits(*waits)),
         ),
-        MsgqOp::PutFront(message) => {
-            (
-                Verb::PutFront,
-                PartList::one(Part::Bytes(Lent::of(message))),
-            )
-        }
+        MsgqOp::PutFront(message) => (Verb::PutFront, PartList::one(Part::message(message))),
         MsgqOp::PutEnd(place) => (Verb::PutEnd, PartList::one(Part::Place(*place))),
         MsgqOp::PutQuit(place) => (Verb::PutQuit, PartList::one(Part::Place(*place))),
         MsgqOp::Get(waits) => (Verb::Get, PartList::one(Part::Waits(*waits))),
@@ -108,7 +103,7 @@ pub fn reply_parts(reply: &MsgqReply) -> PartList<'_>
         MsgqReply::NoMsg => PartList::one(Part::Refusal(Errno::NoMsg)),
         MsgqReply::Wait => PartList::one(Part::Fixed(FixedWord::Wait)),
         MsgqReply::Again => PartList::one(Part::Refusal(Errno::Again)),
-        MsgqReply::Bytes(message) => PartList::one(Part::Bytes(Lent::of(message))),
+        MsgqReply::Bytes(message) => PartList::one(Part::message(message)),
         MsgqReply::Number(number) => PartList::one(Part::Narrow(*number)),
         MsgqReply::Ready => PartList::one(Part::Fixed(FixedWord::Ready)),
         MsgqReply::NotReady => PartList::one(Part::Fixed(FixedWord::NotReady)),

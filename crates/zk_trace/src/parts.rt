@@ -1,6 +1,7 @@
 ghost use Rattle.std.specs.Prelude.{◌≡◌, [], ◌∷◌, ◌++◌, map, OnOk, length, ◌≤◌};
 ghost use Rattle.std.specs.List.{cons_option};
 ghost use Rattle.zk_words.specs.Bytes.{space};
+ghost use Rattle.zk_trace.specs.declared.parts.Part.TheVariants.{Bytes};
 ghost use Rattle.zk_trace.specs.Names.{target_name};
 ghost use Rattle.zk_trace.specs.Parts.{fixed_word, part_word, answer_part, each_behind};
 ghost use Rattle.zk_trace.specs.Sized.{IsSizedPart, AreSized};
@@ -70,6 +71,15 @@ pub enum Part<'a> {
     Oops(OopsWhy),
     /// A word that is the same in each line.
     Fixed(FixedWord),
+}
+
+impl<'a> Part<'a> {
+    /// A message where it stands.
+    pub fn message(message: &'a Msg) -> Part<'a>
+        ensures { result ≡ Bytes message.now }
+    {
+        Part::Bytes(Lent::of(message))
+    }
 }
 
 /// The words of replies that are the same in each line.
@@ -151,7 +161,7 @@ pub fn answer_part(answer: &Answer) -> Part<'_>
         Answer::Flags(flags) => Part::Flags(*flags),
         Answer::Truth(truth) => Part::Truth(*truth),
         Answer::Refused(errno) => Part::Refusal(*errno),
-        Answer::Bytes(message) => Part::Bytes(Lent::of(message)),
+        Answer::Bytes(message) => Part::message(message),
         Answer::Signal(raised, value) => Part::Seen(*raised, *value),
         Answer::Ready(positions) => Part::Ready(Chosen::of(positions)),
         Answer::Channel(channel) => Part::Object(*channel),
@@ -174,8 +184,7 @@ impl<'a> Model for Lent<'a> {
 }
 
 impl<'a> Lent<'a> {
-    /// The message that stands there.
-    pub fn of(message: &'a Msg) -> Lent<'a>
+    fn of(message: &'a Msg) -> Lent<'a>
         ensures { result ≡ message.now }
     {
         Lent { message }

@@ -5,19 +5,23 @@ use Rattle.std.specs.Option.{option_and_then, option_map_or}
 use Rattle.std.proofs.lemmas.Bool.{and_parts, eqb-true}
 use Rattle.std.proofs.lemmas.List.Elements.{All-nil, All-cons}
 use Rattle.zk_base.proofs.Lists.{All-at, list_all-at}
+use Rattle.zk_base.specs.declared.kinds.Need.{Need}
+use Rattle.zk_base.specs.declared.kinds.Need.TheVariants as needs
 use Rattle.zk_base.specs.Fews as fews
 use Rattle.zk_base.specs.Limits.{longest_message}
 use Rattle.zk_base.specs.Messages.{is_message}
 use Rattle.zk_line.specs.declared.types.Decl.{Decl}
 use Rattle.zk_line.specs.declared.types.Decl.TheVariants as decl_kinds
+use Rattle.zk_line.specs.declared.types.Arg.TheVariants as args
+use Rattle.zk_line.specs.declared.types.Ref.{Ref}
 use Rattle.zk_line.specs.declared.types.Ref.TheVariants.{Known, Unknown}
 use Rattle.zk_line.specs.declared.types.Call.{Call}
 use Rattle.zk_line.specs.declared.types.Call.TheVariants as calls
 use Rattle.zk_line.specs.declared.events.Event.{Event}
 use Rattle.zk_line.specs.declared.events.Event.TheVariants as sources
-use Rattle.zk_line.specs.Checks.{is_size}
-use Rattle.zk_line.specs.Fits.{call_fits, decl_fits, all_different}
-use Rattle.zk_line.specs.Objects.{is_at, is_chan, is_msgq, is_observer, size_of, size_at, number_of}
+use Rattle.zk_line.specs.Checks.{size_named, is_size}
+use Rattle.zk_line.specs.Fits.{ref_fits, call_fits, decl_fits, all_different}
+use Rattle.zk_line.specs.Objects.{is_at, is_met, is_chan, is_msgq, size_of, size_at, number_of}
 use Rattle.zk_scenario.specs.Content.{Content}
 use Rattle.zk_scenario.specs.Players.{calls_of}
 use Rattle.zk_scenario.specs.Valid.{IsValid}
@@ -189,9 +193,13 @@ module _ (decls : List Decl) where
 
 -- What a call of a valid scenario says.
 
+-- what is declared has a size, which is one that a message may have
+abbrev Sized : Decl → Type 0
+Sized d = (size : ℕ) × (size_of d ≡ Some size) × (decl_fits d ≡ true → (nat_le 1 size && nat_le size longest_message) ≡ true)
+
 -- an object of messages has messages that aren't too long
 size-long : (decls : List Decl) (object : ℕ) (message : List ℕ) (test : Decl → Bool) → list_all decl_fits decls ≡ true → is_at test decls object ≡ true →
-    ((d : Decl) → test d ≡ true → (size : ℕ) × (size_of d ≡ Some size) × (decl_fits d ≡ true → (nat_le 1 size && nat_le size longest_message) ≡ true)) →
+    ((d : Decl) → test d ≡ true → Sized d) →
     is_size (size_at decls object) (length message) ≡ true → is_message message ≡ true
 size-long decls object message test fits is each long = by (slice_get decls object) refl is where
   by : (o : Option Decl) → slice_get decls object ≡ o → option_map_or test o false ≡ true → is_message message ≡ true
@@ -202,11 +210,11 @@ size-long decls object message test fits is each long = by (slice_get decls obje
       let same : length message ≡ sized.0 = eqb-true (length message) sized.0 (sym (ap (λ o. is_size o (length message)) size) ∙ long) in
       subst (λ (n : ℕ). (nat_le 1 n && nat_le n longest_message) ≡ true) (sym same) (sized.2 (list_all-at decl_fits decls object d fits there))
 
-msgq-size : (d : Decl) → is_msgq d ≡ true → (size : ℕ) × (size_of d ≡ Some size) × (decl_fits d ≡ true → (nat_le 1 size && nat_le size longest_message) ≡ true)
+msgq-size : (d : Decl) → is_msgq d ≡ true → Sized d
 msgq-size (decl_kinds.Msgq name size capacity raw) is = (size, refl, λ fits. (and_parts (nat_le 1 size && nat_le size longest_message) _ fits).0)
 msgq-size d is = absurd (cc)
 
-chan-size : (d : Decl) → is_chan d ≡ true → (size : ℕ) × (size_of d ≡ Some size) × (decl_fits d ≡ true → (nat_le 1 size && nat_le size longest_message) ≡ true)
+chan-size : (d : Decl) → is_chan d ≡ true → Sized d
 chan-size (decl_kinds.Chan name message valid observers) is = (
   length message,
   refl,
@@ -215,33 +223,42 @@ chan-size (decl_kinds.Chan name message valid observers) is = (
 )
 chan-size d is = absurd (cc)
 
--- a second object that is none's doesn't fit
-no-second : (a b : Bool) → (a && (false && b)) ≡ true → ⊥
-no-second true b fits = cc
-no-second false b fits = cc
+-- an object that a call names is declared, and meets what is asked of it
+is-declared : (decls : List Decl) (asked : Need) (object : Ref) → ref_fits false decls asked object ≡ true →
+    is_at (is_met asked) decls (ref_object object) ≡ true
+is-declared decls asked (Known object) fits = fits
+is-declared decls asked (Unknown name) fits = absurd (cc)
 
-plan_of-says : (decls : List Decl) (call : Call) → list_all decl_fits decls ≡ true → call_fits false decls call ≡ true → PlanSays decls (plan_of decls call)
+-- a message behind an object of messages isn't too long
+message-long : (decls : List Decl) (asked : Need) (object : Ref) (message : List ℕ) (more : Bool) → list_all decl_fits decls ≡ true →
+    ((d : Decl) → is_met asked d ≡ true → Sized d) →
+    (ref_fits false decls asked object && (is_size (size_named decls (args.Object object)) (length message) && more)) ≡ true →
+    is_message message ≡ true
+message-long decls asked (Known object) message more each sized fits =
+    let long = is_size (size_at decls object) (length message) in
+    let parts = and_parts (is_at (is_met asked) decls object) (long && more) fits in
+    size-long decls object message (is_met asked) each parts.0 sized (and_parts long more parts.1).0
+message-long decls asked (Unknown name) message more each sized fits = absurd (cc)
+
+plan_of-says : (decls : List Decl) (call : Call) → list_all decl_fits decls ≡ true → call_fits false decls call ≡ true →
+    PlanSays decls (plan_of decls call)
 plan_of-says decls (calls.Tick ticks) each fits = (tt, tt)
-plan_of-says decls (calls.Put (Known queue) message timeout) each fits =
-    let parts = and_parts (is_at is_msgq decls queue) (is_size (size_at decls queue) (length message) && (wait_fits timeout && true)) fits in
-    size-long decls queue message is_msgq each parts.0 msgq-size (and_parts (is_size (size_at decls queue) (length message)) (wait_fits timeout && true) parts.1).0
-plan_of-says decls (calls.Put (Unknown name) message timeout) each fits = absurd (cc)
-plan_of-says decls (calls.PutFront (Known queue) message) each fits =
-    let parts = and_parts (is_at is_msgq decls queue) (is_size (size_at decls queue) (length message) && true) fits in
-    size-long decls queue message is_msgq each parts.0 msgq-size (and_parts (is_size (size_at decls queue) (length message)) true parts.1).0
-plan_of-says decls (calls.PutFront (Unknown name) message) each fits = absurd (cc)
-plan_of-says decls (calls.Mask (Known chan) (Known observer) on) each fits =
-    (and_parts (is_at is_observer decls observer) true (and_parts (is_at is_chan decls chan) (is_at is_observer decls observer && true) fits).1).0
-plan_of-says decls (calls.Mask (Known chan) (Unknown name) on) each fits = absurd (no-second (is_at is_chan decls chan) true fits)
-plan_of-says decls (calls.Mask (Unknown name) observer on) each fits = absurd (cc)
-plan_of-says decls (calls.Publish (Known chan) message timeout) each fits =
-    let parts = and_parts (is_at is_chan decls chan) (is_size (size_at decls chan) (length message) && (wait_fits timeout && true)) fits in
-    (parts.0, size-long decls chan message is_chan each parts.0 chan-size (and_parts (is_size (size_at decls chan) (length message)) (wait_fits timeout && true) parts.1).0)
-plan_of-says decls (calls.Publish (Unknown name) message timeout) each fits = absurd (cc)
-plan_of-says decls (calls.Notify (Known chan) timeout) each fits = ((and_parts (is_at is_chan decls chan) (wait_fits timeout && true) fits).0, tt)
-plan_of-says decls (calls.Notify (Unknown name) timeout) each fits = absurd (cc)
-plan_of-says decls (calls.Read (Known chan) timeout) each fits = ((and_parts (is_at is_chan decls chan) (wait_fits timeout && true) fits).0, tt)
-plan_of-says decls (calls.Read (Unknown name) timeout) each fits = absurd (cc)
+plan_of-says decls (calls.Put queue message timeout) each fits =
+    message-long decls needs.Msgq queue message (wait_fits timeout && true) each msgq-size fits
+plan_of-says decls (calls.PutFront queue message) each fits = message-long decls needs.Msgq queue message true each msgq-size fits
+plan_of-says decls (calls.Mask chan observer on) each fits =
+    let second = ref_fits false decls needs.Obs observer in
+    let parts = and_parts (ref_fits false decls needs.Chan chan) (second && true) fits in
+    is-declared decls needs.Obs observer (and_parts second true parts.1).0
+plan_of-says decls (calls.Publish chan message timeout) each fits =
+    let more = wait_fits timeout && true in
+    let long = is_size (size_named decls (args.Object chan)) (length message) in
+    let parts = and_parts (ref_fits false decls needs.Chan chan) (long && more) fits in
+    (is-declared decls needs.Chan chan parts.0, message-long decls needs.Chan chan message more each chan-size fits)
+plan_of-says decls (calls.Notify chan timeout) each fits =
+    (is-declared decls needs.Chan chan (and_parts (ref_fits false decls needs.Chan chan) (wait_fits timeout && true) fits).0, tt)
+plan_of-says decls (calls.Read chan timeout) each fits =
+    (is-declared decls needs.Chan chan (and_parts (ref_fits false decls needs.Chan chan) (wait_fits timeout && true) fits).0, tt)
 plan_of-says decls call each fits = tt
 
 -- So does each attempt of its player.
