@@ -99,22 +99,22 @@ find-moved rank place r [] = by (eqb rank r) where
   by false = refl
 find-moved rank place r (f ∷ fs) = by (eqb f.rank rank) (eqb f.rank r) (eqb rank r) refl refl refl
     (find-moved rank place r fs) where
-  after : List First
-  after = map (λ f. cond (is_of rank f) (moved_to place f) f) fs
+      after : List First
+      after = map (λ f. cond (is_of rank f) (moved_to place f) f) fs
 
-  val : Option First → Option ℕ
-  val o = option_map (λ (f : First). f.place) o
+      val : Option First → Option ℕ
+      val o = option_map (λ (f : First). f.place) o
 
-  by : (a b c : Bool) → eqb f.rank rank ≡ a → eqb f.rank r ≡ b → eqb rank r ≡ c →
-      val (find (is_of r) after) ≡ cond c (option_map (λ _. place) (first_of r fs)) (first_of r fs) →
-      val (find (is_of r) (cond a (moved_to place f) f ∷ after))
-      ≡ cond c (option_map (λ _. place) (val (cond b (Some f) (find (is_of r) fs)))) (val (cond b (Some f) (find (is_of r) fs)))
-  by true true true fa fb fc same = ap (λ b. val (cond b (Some (moved_to place f)) (find (is_of r) after))) fb
-  by true true false fa fb fc same = absurd (cc (eq-eqb rank r (sym (eqb-true f.rank rank fa) ∙ eqb-true f.rank r fb), fc))
-  by true false c fa fb fc same = ap (λ b. val (cond b (Some (moved_to place f)) (find (is_of r) after))) fb ∙ same
-  by false true true fa fb fc same = absurd (cc (eq-eqb f.rank rank (eqb-true f.rank r fb ∙ sym (eqb-true rank r fc)), fa))
-  by false true false fa fb fc same = ap (λ b. val (cond b (Some f) (find (is_of r) after))) fb
-  by false false c fa fb fc same = ap (λ b. val (cond b (Some f) (find (is_of r) after))) fb ∙ same
+      by : (a b c : Bool) → eqb f.rank rank ≡ a → eqb f.rank r ≡ b → eqb rank r ≡ c →
+          val (find (is_of r) after) ≡ cond c (option_map (λ _. place) (first_of r fs)) (first_of r fs) →
+          val (find (is_of r) (cond a (moved_to place f) f ∷ after))
+          ≡ cond c (option_map (λ _. place) (val (cond b (Some f) (find (is_of r) fs)))) (val (cond b (Some f) (find (is_of r) fs)))
+      by true true true fa fb fc same = ap (λ b. val (cond b (Some (moved_to place f)) (find (is_of r) after))) fb
+      by true true false fa fb fc same = absurd (cc (eq-eqb rank r (sym (eqb-true f.rank rank fa) ∙ eqb-true f.rank r fb), fc))
+      by true false c fa fb fc same = ap (λ b. val (cond b (Some (moved_to place f)) (find (is_of r) after))) fb ∙ same
+      by false true true fa fb fc same = absurd (cc (eq-eqb f.rank rank (eqb-true f.rank r fb ∙ sym (eqb-true rank r fc)), fa))
+      by false true false fa fb fc same = ap (λ b. val (cond b (Some f) (find (is_of r) after))) fb
+      by false false c fa fb fc same = ap (λ b. val (cond b (Some f) (find (is_of r) after))) fb ∙ same
 
 find-gone : (rank r : ℕ) (fs : List First) →
     first_of r (filter (λ f. not (is_of rank f)) fs) ≡ cond (eqb rank r) None (first_of r fs)
@@ -179,10 +179,10 @@ module _ {M A : Type 0} where
     leads-kept [] i d within isnt = absurd (omega arith)
     leads-kept (t ∷ ss) zero d within isnt = ap (λ b. val (cond b (Some new) (find (waits_as r) ss))) off ∙ by
         (waits_as r t) isnt where
-      by : (b : Bool) → (val (cond b (Some t) (find (waits_as r) ss)) ≡ Some (place_of t) → ⊥) →
-          leads r ss ≡ val (cond b (Some t) (find (waits_as r) ss))
-      by true isnt = absurd (isnt refl)
-      by false isnt = refl
+          by : (b : Bool) → (val (cond b (Some t) (find (waits_as r) ss)) ≡ Some (place_of t) → ⊥) →
+              leads r ss ≡ val (cond b (Some t) (find (waits_as r) ss))
+          by true isnt = absurd (isnt refl)
+          by false isnt = refl
     leads-kept (t ∷ ss) (suc i) d within isnt = by (waits_as r t) isnt (leads-kept ss i d (omega arith)) where
       by : (b : Bool) → (val (cond b (Some t) (find (waits_as r) ss)) ≡ Some (place_of (get_or ss i d)) → ⊥) →
           ((leads r ss ≡ Some (place_of (get_or ss i d)) → ⊥) → leads r (set ss i new) ≡ leads r ss) →

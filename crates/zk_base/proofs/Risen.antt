@@ -95,12 +95,12 @@ module _ {X : Type 0} (key : X → ℕ) where
   Rises-map f same [] rises = rises
   Rises-map f same (x ∷ xs) rises = Rises-cons (f x) (map f xs) (each xs (above x xs rises)) (Rises-map f same xs
       (rest x xs rises)) where
-    each : (ys : List X) → All (λ (y : X). key x < key y) ys → All (λ (y : X). key (f x) < key y) (map f ys)
-    each [] all = All-nil (λ (y : X). key (f x) < key y)
-    each (y ∷ ys) all = All-cons (λ (y : X). key (f x) < key y) (f y) (map f ys)
-        (let one = All-head (λ (y : X). key x < key y) y ys all in
-        let to = same x in let from = same y in omega arith)
-        (each ys (All-tail (λ (y : X). key x < key y) y ys all))
+        each : (ys : List X) → All (λ (y : X). key x < key y) ys → All (λ (y : X). key (f x) < key y) (map f ys)
+        each [] all = All-nil (λ (y : X). key (f x) < key y)
+        each (y ∷ ys) all = All-cons (λ (y : X). key (f x) < key y) (f y) (map f ys)
+            (let one = All-head (λ (y : X). key x < key y) y ys all in
+            let to = same x in let from = same y in omega arith)
+            (each ys (All-tail (λ (y : X). key x < key y) y ys all))
 
   -- The first that isn't below a key.
   pub parted : (k : ℕ) (xs : List X) → Rises key xs → IsPartitionedBy (λ (x : X). ltb (key x) k) xs

@@ -161,7 +161,7 @@ module _ {X Y : Type 0} (h : X → Option Y) (p : Y → Bool) (q : X → Bool)
     by : (o : Option Y) (b : Bool) → h x ≡ o → q x ≡ b → length (cond b (x ∷ filter q xs) (filter q xs)) ≤ 1 →
         is_some (find p (cons_option o (filter_map h xs))) ≡ true →
         (length (filter q xs) ≤ 1 → is_some (find p (filter_map h xs)) ≡ true → without_first p
-            (filter_map h xs) ≡ filter_map h left) →
+        (filter_map h xs) ≡ filter_map h left) →
         without_first p (cons_option o (filter_map h xs)) ≡ filter_map h (cond (not b) (x ∷ left) left)
     by None true hx qx once some further = absurd (cc (
       some,

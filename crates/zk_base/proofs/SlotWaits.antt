@@ -131,7 +131,7 @@ module _ {M A : Type 0} where
       ap (find (is_waiter player place)) (map-some waiter (line ss))
       ∙ find-through (λ s. Some s.waiter) (is_waiter player place) (here place) (only-waiter player place) (line ss)
       ∙ ap (λ (l : List (Slot M A)). find (is_waiter player place) (filter_map (λ s. Some s.waiter) l)) (line-here
-          (here place) ss)
+      (here place) ss)
       ∙ sym (ap (find (is_waiter player place)) (map-some waiter (line (filter (here place) ss))))
 
   -- One is changed so that it no longer counts.
@@ -485,8 +485,11 @@ module _ {M A : Type 0} where
       (ap (λ (l : List (Slot M A)). map waiter (filter (away place) l)) first
       ∙ ap (map waiter) without)
       (ap (λ (l : List (Slot M A)). filter_map decision_in (told ss) ++ map (decide answer) (map waiter l)) mine)
-      ∙ sym (ap (λ (l : List (Slot M A)). first_decided answer (record { waiting = map waiter l; decided = filter_map
-          decision_in (told ss) })) first) where
+      ∙ sym (ap (λ (l : List (Slot M A)). first_decided answer (record {
+        waiting = map waiter l;
+        decided = filter_map
+            decision_in (told ss);
+      })) first) where
         mine : filter (here place) (line ss) ≡ s ∷ []
         mine = line-here (here place) ss ∙ ap line alone ∙ ap (λ b. by_key rank (cond b (s ∷ []) [])) on
 

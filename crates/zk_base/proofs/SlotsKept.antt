@@ -138,7 +138,7 @@ module _ {M A : Type 0} where
             (λ t h. omega arith) ss k.below);
         below = All-push (λ (t : Slot M A). place_of t < place_of s + 1) ss s
             (All-weaker (λ (t : Slot M A). place_of t < n) (λ (t : Slot M A). place_of t < place_of s + 1)
-                (λ t h. omega arith) ss k.below)
+            (λ t h. omega arith) ss k.below)
             (omega arith);
         ranked = All-push IsRanked ss s k.ranked ranked;
         numbered = All-push (λ (t : Slot M A). t.number ≤ d) ss s k.numbered (omega arith);
@@ -220,13 +220,16 @@ module _ {M A : Type 0} where
         at : (b : Bool) → eqb first place ≡ b → first_of r (cond b (replaced rank next fs) fs) ≡ leads r (set ss i new)
         at true here = first_of-replaced rank r next fs (ap is_some is)
             ∙ passes (eqb rank r) refl (sym (leaders rank) ∙ is ∙ ap (λ n. Some n) (eqb-true first place here))
-        at false here = isnt (λ lead. absurd (cc (eq-eqb first place (same_Some first place
-            (sym is ∙ leaders rank ∙ lead)), here)))
+        at false here = isnt (λ lead. absurd (cc (
+          eq-eqb first place (same_Some first place
+              (sym is ∙ leaders rank ∙ lead)),
+          here,
+        )))
 
     -- one that didn't go on
     leaders-set : (fs : List First) → Rises place_of ss → ((r : ℕ) → waits_as r new ≡ false) →
         is_waiting (get_or ss i d) ≡ false → ((r : ℕ) → first_of r fs ≡ leads r ss) → (r : ℕ) → first_of r fs ≡ leads r
-            (set ss i new)
+        (set ss i new)
     leaders-set fs rises off on leaders r = leaders r ∙ sym (leads-kept r new (off r) ss i d within isnt) where
       place : ℕ
       place = place_of (get_or ss i d)
@@ -239,8 +242,12 @@ module _ {M A : Type 0} where
             let alone = alone-at place_of ss i d place rises within refl in
             let itself = found-alone (waits_as r) (λ s. eqb (place_of s) place) ss t (get_or ss i d) found
             (eq-eqb (place_of t) place (same_Some (place_of t) place is)) alone in
-            absurd (cc (ap is_waiting itself, on, first (is_waiting t) (eqb t.rank r) (found-passes
-                (waits_as r) ss t found))) where
+            absurd (cc (
+              ap is_waiting itself,
+              on,
+              first (is_waiting t) (eqb t.rank r) (found-passes
+                  (waits_as r) ss t found),
+            )) where
               first : (a b : Bool) → (a && b) ≡ true → a ≡ true
               first true b is = refl
               first false b is = absurd (cc)
@@ -307,7 +314,7 @@ module _ {M A : Type 0} where
     kept-decided answer on =
         let few = k.few in
         kept-changed (decided_as (d + 1) answer it) e (d + 1) on refl (λ ranked. ranked) (omega arith) (omega arith) (omega
-            (arith, few)) refl
+        (arith, few)) refl
         (decided-off (d + 1) answer it) (omega arith)
 
     -- one that goes on ends
@@ -316,7 +323,7 @@ module _ {M A : Type 0} where
     kept-quitted on =
         let few = k.few in
         kept-changed (over it) (e + 1) d on refl (λ ranked. ranked)
-            (All-get_or (λ (t : Slot M A). t.number ≤ d) ss i def within k.numbered)
+        (All-get_or (λ (t : Slot M A). t.number ≤ d) ss i def within k.numbered)
         (omega arith) (omega (arith, few)) refl (over-off it) (omega arith)
 
     -- one that is decided ends
@@ -363,7 +370,7 @@ module _ {M A : Type 0} where
       subst (λ (l : List (Slot M A)). IsKept l fs w f n d) (sym same.0) (subst (λ m. IsKept ss fs w m n d) (sym same.1) k)
   kept-closed {ss} {ts} {fs} {w} {e} {f} {n} {d} k (inr out) =
       subst (λ (l : List (Slot M A)). IsKept l fs w f n d) (sym out.0) (subst (λ m. IsKept (filter is_open ss) fs w m n d)
-          (sym out.1)
+      (sym out.1)
       (let long = length-open ss in
       let waiting = ap length (waiting-open ss) in
       let told = ap length (told-open ss) in
@@ -401,7 +408,7 @@ module _ {M A : Type 0} where
         rises = Rises-map place_of f (λ s. by place_of (is_waiting s) s (λ s. refl)) ss k.rises;
         below = All-map (λ (t : Slot M A). place_of t < n) f ss (All-weaker (λ (t : Slot M A). place_of t < n)
             (λ (t : Slot M A). place_of (f t) < n) (λ t h. subst (λ m. m < n) (sym (by place_of (is_waiting t) t
-                (λ s. refl))) h) ss k.below);
+            (λ s. refl))) h) ss k.below);
         ranked = All-map IsRanked f ss (All-weaker IsRanked (λ t. IsRanked (f t)) (λ t h. still (is_waiting t) t h) ss k.ranked);
         numbered = All-map (λ (t : Slot M A). t.number ≤ d + 1) f ss (All-weaker (λ (t : Slot M A). t.number ≤ d)
             (λ (t : Slot M A). (f t).number ≤ d + 1) (λ t h. newer (is_waiting t) t h) ss k.numbered);
@@ -433,7 +440,7 @@ module _ {M A : Type 0} where
 
           at : (b : Bool) → is_waiting s ≡ b → after ≡ [] →
               cond (is_waiting (cond b (decided_as (d + 1) answer s) s)) (cond b (decided_as
-                  (d + 1) answer s) s ∷ after) after ≡ []
+              (d + 1) answer s) s ∷ after) after ≡ []
           at true on none = none
           at false on none = ap (λ b. cond b (s ∷ after) after) on ∙ none
 
@@ -446,15 +453,15 @@ module _ {M A : Type 0} where
 
           both : (c : Bool) → length after ≡ length (filter is_waiting ss) + length (filter has_answer ss) →
               length (cond c (s ∷ after) after) ≡ length (filter is_waiting ss) + length (cond c (s ∷ filter has_answer ss)
-                  (filter has_answer ss))
+              (filter has_answer ss))
           both true same = omega arith
           both false same = same
 
           at : (b : Bool) → is_waiting s ≡ b → length after ≡ length (filter is_waiting ss) + length (filter has_answer ss) →
               length (cond (has_answer (cond b (decided_as (d + 1) answer s) s)) (cond b (decided_as
-                  (d + 1) answer s) s ∷ after) after)
+              (d + 1) answer s) s ∷ after) after)
               ≡ length (cond b (s ∷ filter is_waiting ss) (filter is_waiting ss)) + length (cond (has_answer s)
-                  (s ∷ filter has_answer ss) (filter has_answer ss))
+              (s ∷ filter has_answer ss) (filter has_answer ss))
           at true on same =
               let off = ap (λ c. length (cond c (s ∷ filter has_answer ss) (filter has_answer ss))) (told-off s on) in omega arith
           at false on same = both (has_answer s) same
@@ -464,7 +471,7 @@ module _ {M A : Type 0} where
         unled r (s ∷ ss) = at (is_waiting s) refl (unled r ss) where
           at : (b : Bool) → is_waiting s ≡ b → leads r (map (decided_all (d + 1) answer) ss) ≡ None →
               option_map place_of (cond (waits_as r (cond b (decided_as (d + 1) answer s) s)) (Some (cond b (decided_as
-                  (d + 1) answer s) s))
+              (d + 1) answer s) s))
               (find (waits_as r) (map (decided_all (d + 1) answer) ss))) ≡ None
           at true on none = none
           at false on none = ap (λ b. option_map place_of (cond (b && eqb s.rank r) (Some s)
@@ -502,7 +509,7 @@ pub passed-none : (rank place : ℕ) (next : Option ℕ) (fs : List First) → A
     passed_on rank place next fs ≡ fs
 passed-none rank place next fs differ =
     ap (λ (o : Option ℕ). cond (option_map_or (λ first. eqb first place) o false) (replaced rank next fs) fs)
-        (no-first rank fs differ)
+    (no-first rank fs differ)
 
 pub passed-other : (rank place at : ℕ) (next : Option ℕ) (fs : List First) (d : First) → Rises rank_of_first fs → at < length fs →
     (get_or fs at d).rank ≡ rank → (get_or fs at d).place ≢ place → passed_on rank place next fs ≡ fs

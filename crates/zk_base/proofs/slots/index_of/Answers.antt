@@ -22,4 +22,4 @@ returns-then-slots-index-clause-none g c =
     c.partition_point-index.ensures.partitioned (parted place_of c.args.place ss c.requires) (λ a r q k. search rules) in
     nowhere place_of c.args.place i ss c.requires point
     (λ d within is. c.if-slots-index.true (ap (λ (s : Slot g.row.M.Denot g.row.A.Denot). place_of s)
-        (get_or_default ss i _ d within) ∙ is))
+    (get_or_default ss i _ d within) ∙ is))

@@ -21,7 +21,7 @@ invariant_of-self g c =
     subst (λ l. IsWaitList l c.clear.new.self.items 0 i.ended i.next (i.decisions + 1) told) (sym items)
     (subst (λ l. IsWaitList (map f i.slots.items) l 0 i.ended i.next (i.decisions + 1) told) (sym c.clear.ensures.items)
     (list-all c.self.invariant c.args.answer (search (arith, rules)) told
-        (λ place below. c.everything-self-inside.ensures place (search (arith, rules)))))
+    (λ place below. c.everything-self-inside.ensures place (search (arith, rules)))))
 
 pub returns-clause-waits : goal.returns-clause-waits
 returns-clause-waits g c =
@@ -33,7 +33,7 @@ returns-clause-waits g c =
     ap waits_in items
     ∙ waits-all (i.decisions + 1) c.args.answer i.slots.items
     (All-weaker (λ (s : Slot g.row.M.Denot g.row.A.Denot). s.number ≤ i.decisions)
-        (λ (s : Slot g.row.M.Denot g.row.A.Denot). s.number < i.decisions + 1)
+    (λ (s : Slot g.row.M.Denot g.row.A.Denot). s.number < i.decisions + 1)
     (λ s h. omega arith) i.slots.items c.self.invariant.kept.numbered)
     ∙ ap (all_decided c.args.answer) (seen c.self.view_is)
 

@@ -38,7 +38,7 @@ pub overflow_add-self : goal.overflow_add-self
 overflow_add-self g c =
     let fs = c.self.inside.firsts in
     let waits = first-waits c.self.invariant.kept (some-items fs.items fs.len (search rules)
-        (sym c.is_empty.ensures ∙ c.if-is_empty.false)) in
+    (sym c.is_empty.ensures ∙ c.if-is_empty.false)) in
     let few = c.self.invariant.kept.few in
     let less : c.self.inside.decisions < c.self.inside.next = omega (arith, waits, few) in
     search (arith, rules)
@@ -50,18 +50,18 @@ invariant_of-self g c =
     let s = c.index-2.result.now in
     let k = c.in-Some.index in
     let found = found-at c.deref.ensures.value c.self.invariant.kept.rises k s c.in-Some.ensures.within
-        (c.in-Some.ensures.found s) in
+    (c.in-Some.ensures.found s) in
     let served = first-served c.self.invariant.kept c.index.result.now k s some found.within (found.at ∙
-        ap (λ (f : First). f.place) c.index.ensures) in
+    ap (λ (f : First). f.place) c.index.ensures) in
     let new = c.decided_as.ensures ∙ ap (decided_as (i.decisions + 1) c.args.answer) c.index-2.ensures in
     let told = c.with-self-inside.result in
     subst (λ l. IsWaitList l c.pass_on.new.firsts.items (i.waiting - 1) i.ended i.next (i.decisions + 1) told) (sym (ap
-        (set i.slots.items k) new))
+    (set i.slots.items k) new))
     (subst (λ l. IsWaitList (set i.slots.items k (decided_as (i.decisions + 1) c.args.answer (get_or i.slots.items k s))) l
-        (i.waiting - 1) i.ended
+    (i.waiting - 1) i.ended
     i.next (i.decisions + 1) told) (sym (passed-at c.deref-2.ensures.value i.firsts.items k s (c.pass_on.ensures.items s)))
     (list-decided c.self.invariant c.args.answer k s found.within served.0 told (subst (IsIn told)
-        (sym found.at) c.with-self-inside.ensures.here)
+    (sym found.at) c.with-self-inside.ensures.here)
     c.with-self-inside.ensures.wide))
 
 pub returns-clause-waits : goal.returns-clause-waits
@@ -72,16 +72,16 @@ returns-clause-waits g c =
     let s = c.index-2.result.now in
     let k = c.in-Some.index in
     let found = found-at c.deref.ensures.value c.self.invariant.kept.rises k s c.in-Some.ensures.within
-        (c.in-Some.ensures.found s) in
+    (c.in-Some.ensures.found s) in
     let served = first-served c.self.invariant.kept c.index.result.now k s some found.within (found.at ∙
-        ap (λ (f : First). f.place) c.index.ensures) in
+    ap (λ (f : First). f.place) c.index.ensures) in
     let new = c.decided_as.ensures ∙ ap (decided_as (i.decisions + 1) c.args.answer) c.index-2.ensures in
     ap (λ t. waits_in (set ss k t)) new
     ∙ ap waits_in (set-map place_of (decided_as (i.decisions + 1) c.args.answer) ss k s _ c.self.invariant.kept.rises
-        found.within found.at)
+    found.within found.at)
     ∙ waits-first (i.decisions + 1) c.args.answer _ ss served.2 (get_or ss k s)
     (All-weaker (λ (s : Slot g.row.M.Denot g.row.A.Denot). s.number ≤ i.decisions)
-        (λ (s : Slot g.row.M.Denot g.row.A.Denot). s.number < i.decisions + 1)
+    (λ (s : Slot g.row.M.Denot g.row.A.Denot). s.number < i.decisions + 1)
     (λ s h. omega arith) ss c.self.invariant.kept.numbered) found.alone served.0 served.3
     ∙ ap (first_decided c.args.answer) (seen c.self.view_is)
 

@@ -18,7 +18,7 @@ pub returns-in_err-index-clause-waits : goal.returns-in_err-index-clause-waits
 returns-in_err-index-clause-waits g c =
     let ss = c.self.inside.slots.items in
     let none = decision-nowhere c.args.player c.args.place ss (nowhere-at c.deref.ensures.value c.args.place
-        c.in_err-index.ensures.none) in
+    c.in_err-index.ensures.none) in
     sym (seen c.self.view_is) ∙ ended-none c.args.player c.args.place ss none
     ∙ ap (λ ws. ended ws c.args.player c.args.place) (seen c.self.view_is)
 
@@ -26,7 +26,7 @@ pub returns-in_err-answer-clause-answer : goal.returns-in_err-answer-clause-answ
 returns-in_err-answer-clause-answer g c =
     let s = c.index.result.now in
     let found = found-at c.deref.ensures.value c.self.invariant.kept.rises c.in_ok-index.index s c.in_ok-index.ensures.within
-        (c.in_ok-index.ensures.found s) in
+    (c.in_ok-index.ensures.found s) in
     let none = ap (answer_for c.args.player) (sym c.index.ensures) ∙ sym c.answer_for.ensures ∙ c.in_err-answer.was in
     c.from_residual-in_err-answer.ensures
     ∙ sym (decision-at c.args.player c.args.place c.self.inside.slots.items _ found.alone found.at ∙ none)
@@ -37,22 +37,22 @@ returns-in_err-answer-clause-waits g c =
     let ss = c.self.inside.slots.items in
     let s = c.index.result.now in
     let found = found-at c.deref.ensures.value c.self.invariant.kept.rises c.in_ok-index.index s c.in_ok-index.ensures.within
-        (c.in_ok-index.ensures.found s) in
+    (c.in_ok-index.ensures.found s) in
     let none = ap (answer_for c.args.player) (sym c.index.ensures) ∙ sym c.answer_for.ensures ∙ c.in_err-answer.was in
     sym (seen c.self.view_is) ∙ ended-none c.args.player c.args.place ss
-        (decision-at c.args.player c.args.place ss _ found.alone found.at ∙ none)
+    (decision-at c.args.player c.args.place ss _ found.alone found.at ∙ none)
     ∙ ap (λ ws. ended ws c.args.player c.args.place) (seen c.self.view_is)
 
 pub invariant_of-self : goal.invariant_of-self
 invariant_of-self g c =
     let s = c.index.result.now in
     let found = found-at c.deref.ensures.value c.self.invariant.kept.rises c.in_ok-index.index s c.in_ok-index.ensures.within
-        (c.in_ok-index.ensures.found s) in
+    (c.in_ok-index.ensures.found s) in
     let is = ap (answer_for c.args.player) (sym c.index.ensures) ∙ sym c.answer_for.ensures ∙ c.in_ok-answer.was in
     let new = c.over.ensures ∙ ap over (c.index-2.ensures ∙ get_or_default c.self.inside.slots.items c.in_ok-index.index _ s
-        found.within) in
+    found.within) in
     let after = when-ended c.self.invariant c.args.player found new c.close_up-self-inside.ensures.slots
-        c.close_up-self-inside.ensures.half
+    c.close_up-self-inside.ensures.half
     c.in_ok-answer.answer is in
     list-told after.listed c.where_any-self-inside.result c.len.result (search rules) c.where_any-self-inside.ensures
 
@@ -60,7 +60,7 @@ pub returns-clause-answer : goal.returns-clause-answer
 returns-clause-answer g c =
     let s = c.index.result.now in
     let found = found-at c.deref.ensures.value c.self.invariant.kept.rises c.in_ok-index.index s c.in_ok-index.ensures.within
-        (c.in_ok-index.ensures.found s) in
+    (c.in_ok-index.ensures.found s) in
     let is = ap (answer_for c.args.player) (sym c.index.ensures) ∙ sym c.answer_for.ensures ∙ c.in_ok-answer.was in
     sym is ∙ sym (decision-at c.args.player c.args.place c.self.inside.slots.items _ found.alone found.at)
     ∙ ap (λ ws. decision_of ws c.args.player c.args.place) (seen c.self.view_is)
@@ -69,12 +69,12 @@ pub returns-clause-waits : goal.returns-clause-waits
 returns-clause-waits g c =
     let s = c.index.result.now in
     let found = found-at c.deref.ensures.value c.self.invariant.kept.rises c.in_ok-index.index s c.in_ok-index.ensures.within
-        (c.in_ok-index.ensures.found s) in
+    (c.in_ok-index.ensures.found s) in
     let is = ap (answer_for c.args.player) (sym c.index.ensures) ∙ sym c.answer_for.ensures ∙ c.in_ok-answer.was in
     let new = c.over.ensures ∙ ap over (c.index-2.ensures ∙ get_or_default c.self.inside.slots.items c.in_ok-index.index _ s
-        found.within) in
+    found.within) in
     let after = when-ended c.self.invariant c.args.player found new c.close_up-self-inside.ensures.slots
-        c.close_up-self-inside.ensures.half
+    c.close_up-self-inside.ensures.half
     c.in_ok-answer.answer is in
     after.holds ∙ ap (λ ws. ended ws c.args.player c.args.place) (seen c.self.view_is)
 
@@ -82,12 +82,12 @@ pub returns-clause-open : goal.returns-clause-open
 returns-clause-open g c =
     let s = c.index.result.now in
     let found = found-at c.deref.ensures.value c.self.invariant.kept.rises c.in_ok-index.index s c.in_ok-index.ensures.within
-        (c.in_ok-index.ensures.found s) in
+    (c.in_ok-index.ensures.found s) in
     let is = ap (answer_for c.args.player) (sym c.index.ensures) ∙ sym c.answer_for.ensures ∙ c.in_ok-answer.was in
     let new = c.over.ensures ∙ ap over (c.index-2.ensures ∙ get_or_default c.self.inside.slots.items c.in_ok-index.index _ s
-        found.within) in
+    found.within) in
     let after = when-ended c.self.invariant c.args.player found new c.close_up-self-inside.ensures.slots
-        c.close_up-self-inside.ensures.half
+    c.close_up-self-inside.ensures.half
     c.in_ok-answer.answer is in
     let fewer = after.fewer in
     let view = ap open_waits (seen c.self.view_is) in

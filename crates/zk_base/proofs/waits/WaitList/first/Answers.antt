@@ -8,7 +8,7 @@ pub returns-then-is_empty : goal.returns-then-is_empty
 returns-then-is_empty g c =
     let none : length c.self.inside.firsts.items ≡ 0 = search (arith, rules) in
     ap (λ l. slice_get (map (λ s. s.waiter) l) 0) (sym (kept-empty c.self.invariant.kept
-        (no-items c.self.inside.firsts.items none)))
+    (no-items c.self.inside.firsts.items none)))
     ∙ ap (λ ws. slice_get ws.waiting 0) (seen c.self.view_is)
 
 pub returns-in_err-index : goal.returns-in_err-index
