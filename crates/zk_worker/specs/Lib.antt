@@ -9,6 +9,7 @@ pub mod Looks
 pub mod Machines
 pub mod Moves
 pub mod Next
+pub mod OneStep
 pub mod Places
 pub mod Playing
 pub mod Polls

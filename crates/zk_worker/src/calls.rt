@@ -1,8 +1,9 @@
-ghost use Rattle.std.specs.Prelude.{◌≡◌, ◌<◌, ◌≤◌, false, List, slice_get, option_map, length};
+ghost use Rattle.std.specs.Prelude.{◌≡◌, ◌<◌, ◌≤◌, true, List, slice_get, option_map, length};
 ghost use Rattle.zk_line.specs.Calls.{word_of};
 ghost use Rattle.zk_line.specs.declared.types.Decl.{Decl};
 ghost use Rattle.zk_worker.specs.Calls.{plan_of, closing_step, plan_attempts, plan_progress};
 ghost use Rattle.zk_worker.specs.Moves.{IsDone};
+ghost use Rattle.zk_worker.specs.OneStep.{is_one, makes_one, makes_one_at_work, makes_one_at_table};
 ghost use Rattle.zk_worker.specs.Refs.{ref_object, ref_number};
 
 use crate::moves::answer_by;
@@ -90,19 +91,46 @@ fn reschedule(scenario: &Scenario, item: Ref, queue: Ref, delay: u32) -> WorkOp
     )
 }
 
-/// A call of the work service that makes one step, about an item or a queue by its number there.
-// An attempt is put where it is kept, here and below: it is large, and would be moved once for each layer.
-fn at_work(op: WorkOp, stage: &Stage, index: u32, ahead: &mut Option<Step>)
-    ensures { ahead.new ≡ slice_get (plan_attempts (Plan.One (Step.Work op)) stage.now) index }
-{
-    *ahead = one(&Step::Work(op), stage, index);
-}
-
 /// A call of the work service that may wait.
+// An attempt is put where it is kept, here and below: it is large, and would be moved once for each layer.
 fn work_wait(opening: WorkOp, closing: Closing, stage: &Stage, index: u32, ahead: &mut Option<Step>)
     ensures { ahead.new ≡ slice_get (plan_attempts (Plan.Pair (Step.Work opening) closing) stage.now) index }
 {
     *ahead = pair(&Step::Work(opening), closing, stage, index);
+}
+
+/// A call that cancels an item, and waits for the end of its run.
+fn cancel_sync(scenario: &Scenario, item: Ref, stage: &Stage, index: u32, ahead: &mut Option<Step>)
+    ensures { ahead.new ≡ slice_get (plan_attempts (Plan.Pair
+        (Step.Work (WorkOp.CancelStart (ref_number scenario.now.decls item))) Closing.Cancel) stage.now) index }
+{
+    let opening = WorkOp::CancelStart(ref_number(scenario, item));
+    work_wait(opening, Closing::Cancel, stage, index, ahead);
+}
+
+/// A call that waits until the last submission of an item has run.
+fn flush(scenario: &Scenario, item: Ref, stage: &Stage, index: u32, ahead: &mut Option<Step>)
+    ensures { ahead.new ≡ slice_get (plan_attempts (Plan.Pair
+        (Step.Work (WorkOp.FlushStart (ref_number scenario.now.decls item))) Closing.Flush) stage.now) index }
+{
+    let opening = WorkOp::FlushStart(ref_number(scenario, item));
+    work_wait(opening, Closing::Flush, stage, index, ahead);
+}
+
+/// A call that waits until a queue is empty, and may plug it.
+fn drain(
+    scenario: &Scenario,
+    queue: Ref,
+    plug: bool,
+    stage: &Stage,
+    index: u32,
+    ahead: &mut Option<Step>,
+)
+    ensures { ahead.new ≡ slice_get (plan_attempts (Plan.Pair
+        (Step.Work (WorkOp.DrainStart (ref_number scenario.now.decls queue) plug)) Closing.Drain) stage.now) index }
+{
+    let opening = WorkOp::DrainStart(ref_number(scenario, queue), plug);
+    work_wait(opening, Closing::Drain, stage, index, ahead);
 }
 
 /// Both services that have a time go on by so many ticks.
@@ -113,75 +141,6 @@ fn tick(ticks: u32, stage: &Stage, index: u32, ahead: &mut Option<Step>)
     let first = Step::Work(WorkOp::Announce(ticks));
     let second = Step::Clock(ClockOp::Announce(ticks));
     *ahead = twice(&first, &second, stage, index);
-}
-
-/// A call that makes one step at a semaphore.
-fn at_sem(sem: Ref, op: SemOp, stage: &Stage, index: u32, ahead: &mut Option<Step>)
-    ensures { ahead.new ≡ slice_get (plan_attempts (Plan.One (Step.Sem (ref_object sem) op)) stage.now) index }
-{
-    *ahead = one(&Step::Sem(ref_object(sem), op), stage, index);
-}
-
-/// A call that makes one step at a message queue.
-fn at_msgq(queue: Ref, op: MsgqOp, stage: &Stage, index: u32, ahead: &mut Option<Step>)
-    ensures { ahead.new ≡ slice_get (plan_attempts (Plan.One (Step.Msgq (ref_object queue) op)) stage.now) index }
-{
-    *ahead = one(&Step::Msgq(ref_object(queue), op), stage, index);
-}
-
-/// A call that writes to a signal.
-fn at_signal(signal: Ref, op: SignalOp, stage: &Stage, index: u32, ahead: &mut Option<Step>)
-    ensures { ahead.new ≡ slice_get (plan_attempts (Plan.One (Step.Signal (ref_object signal) op)) stage.now) index }
-{
-    *ahead = one(&Step::Signal(ref_object(signal), op), stage, index);
-}
-
-/// A call that makes one step at a channel.
-fn at_chan(chan: Ref, op: ChanOp, stage: &Stage, index: u32, ahead: &mut Option<Step>)
-    ensures { ahead.new ≡ slice_get (plan_attempts (Plan.One (Step.Chan (ref_object chan) op)) stage.now) index }
-{
-    *ahead = one(&Step::Chan(ref_object(chan), op), stage, index);
-}
-
-/// A call that makes one step at an observer.
-fn at_observer(observer: Ref, op: ObsOp, stage: &Stage, index: u32, ahead: &mut Option<Step>)
-    ensures { ahead.new ≡ slice_get (plan_attempts (Plan.One (Step.Obs (ref_object observer) op)) stage.now) index }
-{
-    *ahead = one(&Step::Obs(ref_object(observer), op), stage, index);
-}
-
-/// A call that makes one step at the object table.
-fn at_table(op: TableOp, stage: &Stage, index: u32, ahead: &mut Option<Step>)
-    ensures { ahead.new ≡ slice_get (plan_attempts (Plan.One (Step.Table op)) stage.now) index }
-{
-    *ahead = one(&Step::Table(op), stage, index);
-}
-
-fn grant(thread: Ref, object: Ref) -> TableOp
-    ensures { result ≡ TableOp.Grant (ref_object thread) (ref_object object) }
-{
-    TableOp::Grant(ref_object(thread), ref_object(object))
-}
-
-fn revoke(thread: Ref, object: Ref) -> TableOp
-    ensures { result ≡ TableOp.Revoke (ref_object thread) (ref_object object) }
-{
-    TableOp::Revoke(ref_object(thread), ref_object(object))
-}
-
-/// A look at the busy flags of an item.
-fn look_item(item: Ref, stage: &Stage, index: u32, ahead: &mut Option<Step>)
-    ensures { ahead.new ≡ slice_get (plan_attempts (Plan.One (Step.LookItem (ref_object item))) stage.now) index }
-{
-    *ahead = one(&Step::LookItem(ref_object(item)), stage, index);
-}
-
-/// A look at a signal, raised or not.
-fn look_signal(signal: Ref, stage: &Stage, index: u32, ahead: &mut Option<Step>)
-    ensures { ahead.new ≡ slice_get
-        (plan_attempts (Plan.One (Step.LookSignal (ref_object signal) false)) stage.now) index }
-{
-    *ahead = one(&Step::LookSignal(ref_object(signal), false), stage, index);
 }
 
 /// A call that takes a semaphore.
@@ -308,14 +267,83 @@ fn read(chan: Ref, timeout: Timeout, stage: &Stage, index: u32, ahead: &mut Opti
 
 /// A step at the work service that names one item or one queue.
 macro_rules! one_named {
-    ($op:ident, $named:expr; $scenario:expr, $stage:expr, $index:expr, $ahead:expr) => {
-        at_work(
-            WorkOp::$op(ref_number($scenario, *$named)),
-            $stage,
-            $index,
-            $ahead,
-        )
+    ($op:ident, $named:expr; $scenario:expr) => {
+        WorkOp::$op(ref_number($scenario, *$named))
     };
+}
+
+/// The operation of a call that makes one step at the work service.
+fn work_op(scenario: &Scenario, call: &Call) -> WorkOp
+    requires { makes_one_at_work call.now ≡ true }
+    ensures { plan_of scenario.now.decls call.now ≡ Plan.One (Step.Work result) }
+{
+    match call {
+        Call::Submit(item, queue) => submit(scenario, *item, *queue),
+        Call::Cancel(item) => one_named!(Cancel, item; scenario),
+        Call::Schedule(item, queue, delay) => schedule(scenario, *item, *queue, *delay),
+        Call::Reschedule(item, queue, delay) => reschedule(scenario, *item, *queue, *delay),
+        Call::Remaining(item) => one_named!(Remaining, item; scenario),
+        Call::Start(queue) => one_named!(Start, queue; scenario),
+        Call::Unplug(queue) => one_named!(Unplug, queue; scenario),
+        Call::Stop(queue) => one_named!(Stop, queue; scenario),
+        _ => unreachable!(),
+    }
+}
+
+/// The operation of a call at the object table.
+fn table_op(call: &Call) -> TableOp
+    requires { makes_one_at_table call.now ≡ true }
+    ensures { (decls : List Decl) → plan_of decls call.now ≡ Plan.One (Step.Table result) }
+{
+    match call {
+        Call::Grant(thread, object) => TableOp::Grant(ref_object(*thread), ref_object(*object)),
+        Call::Release(object) => TableOp::Release(ref_object(*object)),
+        Call::Revoke(thread, object) => TableOp::Revoke(ref_object(*thread), ref_object(*object)),
+        Call::Public(object) => TableOp::Public(ref_object(*object)),
+        Call::Init(object) => TableOp::Init(ref_object(*object)),
+        Call::User => TableOp::EnterUser,
+        _ => unreachable!(),
+    }
+}
+
+fn mask(observer: Ref, on: bool) -> ChanOp
+    ensures { result ≡ ChanOp.Mask (ref_object observer) on }
+{
+    ChanOp::Mask(ref_object(observer), on)
+}
+
+/// The step of a call that makes one.
+fn only_step(scenario: &Scenario, call: &Call) -> Step
+    requires { makes_one call.now ≡ true }
+    ensures { plan_of scenario.now.decls call.now ≡ Plan.One result }
+{
+    match call {
+        Call::Busy(item) => Step::LookItem(ref_object(*item)),
+        Call::Give(sem) => Step::Sem(ref_object(*sem), SemOp::Give),
+        Call::Reset(sem) => Step::Sem(ref_object(*sem), SemOp::Reset),
+        Call::Count(sem) => Step::Sem(ref_object(*sem), SemOp::Count),
+        Call::PutFront(queue, message) => {
+            Step::Msgq(ref_object(*queue), MsgqOp::PutFront(*message))
+        }
+        Call::Peek(queue) => Step::Msgq(ref_object(*queue), MsgqOp::Peek),
+        Call::PeekAt(queue, place) => Step::Msgq(ref_object(*queue), MsgqOp::PeekAt(*place)),
+        Call::Purge(queue) => Step::Msgq(ref_object(*queue), MsgqOp::Purge),
+        Call::Used(queue) => Step::Msgq(ref_object(*queue), MsgqOp::Used),
+        Call::Free(queue) => Step::Msgq(ref_object(*queue), MsgqOp::Free),
+        Call::Raise(signal, value) => Step::Signal(ref_object(*signal), SignalOp::Raise(*value)),
+        Call::Clear(signal) => Step::Signal(ref_object(*signal), SignalOp::Clear),
+        Call::Check(signal) => Step::LookSignal(ref_object(*signal), false),
+        Call::Finish(chan) => Step::Chan(ref_object(*chan), ChanOp::Finish),
+        Call::Mask(chan, observer, on) => Step::Chan(ref_object(*chan), mask(*observer, *on)),
+        Call::Enable(observer, on) => Step::Obs(ref_object(*observer), ObsOp::Enable(*on)),
+        Call::Grant(_, _)
+        | Call::Release(_)
+        | Call::Revoke(_, _)
+        | Call::Public(_)
+        | Call::Init(_)
+        | Call::User => Step::Table(table_op(call)),
+        _ => Step::Work(work_op(scenario, call)),
+    }
 }
 
 /// Puts the attempt of this index among the next attempts of a call.
@@ -330,110 +358,24 @@ pub fn call_ahead(
     ensures { ahead.new ≡ slice_get (plan_attempts (plan_of scenario.now.decls call.now) stage.now) index }
 {
     match call {
-        Call::Submit(item, queue) => at_work(submit(scenario, *item, *queue), stage, index, ahead),
-        Call::Cancel(item) => one_named!(Cancel, item; scenario, stage, index, ahead),
-        Call::CancelSync(item) => work_wait(
-            WorkOp::CancelStart(ref_number(scenario, *item)),
-            Closing::Cancel,
-            stage,
-            index,
-            ahead,
-        ),
-        Call::Flush(item) => work_wait(
-            WorkOp::FlushStart(ref_number(scenario, *item)),
-            Closing::Flush,
-            stage,
-            index,
-            ahead,
-        ),
-        Call::Schedule(item, queue, delay) => at_work(
-            schedule(scenario, *item, *queue, *delay),
-            stage,
-            index,
-            ahead,
-        ),
-        Call::Reschedule(item, queue, delay) => at_work(
-            reschedule(scenario, *item, *queue, *delay),
-            stage,
-            index,
-            ahead,
-        ),
-        Call::Remaining(item) => one_named!(Remaining, item; scenario, stage, index, ahead),
-        Call::Busy(item) => look_item(*item, stage, index, ahead),
-        Call::Start(queue) => one_named!(Start, queue; scenario, stage, index, ahead),
-        Call::Drain(queue, plug) => work_wait(
-            WorkOp::DrainStart(ref_number(scenario, *queue), *plug),
-            Closing::Drain,
-            stage,
-            index,
-            ahead,
-        ),
-        Call::Unplug(queue) => one_named!(Unplug, queue; scenario, stage, index, ahead),
-        Call::Stop(queue) => one_named!(Stop, queue; scenario, stage, index, ahead),
+        Call::CancelSync(item) => cancel_sync(scenario, *item, stage, index, ahead),
+        Call::Flush(item) => flush(scenario, *item, stage, index, ahead),
+        Call::Drain(queue, plug) => drain(scenario, *queue, *plug, stage, index, ahead),
         Call::Tick(ticks) => tick(*ticks, stage, index, ahead),
         Call::Take(sem, timeout) => take(*sem, *timeout, stage, index, ahead),
-        Call::Give(sem) => at_sem(*sem, SemOp::Give, stage, index, ahead),
-        Call::Reset(sem) => at_sem(*sem, SemOp::Reset, stage, index, ahead),
-        Call::Count(sem) => at_sem(*sem, SemOp::Count, stage, index, ahead),
         Call::Put(queue, message, timeout) => put_message(
             *queue, message, *timeout, stage, index, ahead,
         ),
-        Call::PutFront(queue, message) => at_msgq(
-            *queue,
-            MsgqOp::PutFront(*message),
-            stage,
-            index,
-            ahead,
-        ),
         Call::Get(queue, timeout) => get(*queue, *timeout, stage, index, ahead),
-        Call::Peek(queue) => at_msgq(*queue, MsgqOp::Peek, stage, index, ahead),
-        Call::PeekAt(queue, place) => at_msgq(*queue, MsgqOp::PeekAt(*place), stage, index, ahead),
-        Call::Purge(queue) => at_msgq(*queue, MsgqOp::Purge, stage, index, ahead),
-        Call::Used(queue) => at_msgq(*queue, MsgqOp::Used, stage, index, ahead),
-        Call::Free(queue) => at_msgq(*queue, MsgqOp::Free, stage, index, ahead),
-        Call::Raise(signal, value) => at_signal(
-            *signal,
-            SignalOp::Raise(*value),
-            stage,
-            index,
-            ahead,
-        ),
-        Call::Clear(signal) => at_signal(*signal, SignalOp::Clear, stage, index, ahead),
-        Call::Check(signal) => look_signal(*signal, stage, index, ahead),
         Call::Poll(timeout, events) => poll_ahead(*timeout, events, stage, index, ahead),
         Call::Claim(chan, timeout) => claim(*chan, *timeout, stage, index, ahead),
-        Call::Finish(chan) => at_chan(*chan, ChanOp::Finish, stage, index, ahead),
-        Call::Mask(chan, observer, on) => at_chan(
-            *chan,
-            ChanOp::Mask(ref_object(*observer), *on),
-            stage,
-            index,
-            ahead,
-        ),
-        Call::Enable(observer, on) => at_observer(
-            *observer,
-            ObsOp::Enable(*on),
-            stage,
-            index,
-            ahead,
-        ),
         Call::SubWait(sub, timeout) => wait_at_sub(*sub, *timeout, stage, index, ahead),
         Call::Publish(chan, message, timeout) => publish(
             *chan, message, *timeout, stage, index, ahead,
         ),
         Call::Notify(chan, timeout) => notify(*chan, *timeout, stage, index, ahead),
         Call::Read(chan, timeout) => read(*chan, *timeout, stage, index, ahead),
-        Call::Grant(thread, object) => at_table(grant(*thread, *object), stage, index, ahead),
-        Call::Release(object) => at_table(
-            TableOp::Release(ref_object(*object)),
-            stage,
-            index,
-            ahead,
-        ),
-        Call::Revoke(thread, object) => at_table(revoke(*thread, *object), stage, index, ahead),
-        Call::Public(object) => at_table(TableOp::Public(ref_object(*object)), stage, index, ahead),
-        Call::Init(object) => at_table(TableOp::Init(ref_object(*object)), stage, index, ahead),
-        Call::User => at_table(TableOp::EnterUser, stage, index, ahead),
+        _ => *ahead = one(&only_step(scenario, call), stage, index),
     }
 }
 
@@ -474,6 +416,47 @@ fn tick_goes_on(reply: &StepReply, step: u32, stage: &mut Stage, answers: &mut A
     }
 }
 
+/// The word of a call that makes one step.
+fn only_word(call: &Call) -> Word
+    requires { makes_one call.now ≡ true }
+    ensures word { result ≡ word_of call.now }
+    ensures one { (decls : List Decl) → is_one (plan_of decls call.now) ≡ true }
+{
+    match call {
+        Call::Submit(_, _) => Word::Submit,
+        Call::Cancel(_) => Word::Cancel,
+        Call::Schedule(_, _, _) => Word::Schedule,
+        Call::Reschedule(_, _, _) => Word::Reschedule,
+        Call::Remaining(_) => Word::Remaining,
+        Call::Busy(_) => Word::Busy,
+        Call::Start(_) => Word::Start,
+        Call::Unplug(_) => Word::Unplug,
+        Call::Stop(_) => Word::Stop,
+        Call::PutFront(_, _) => Word::PutFront,
+        Call::Give(_) => Word::Give,
+        Call::Reset(_) => Word::Reset,
+        Call::Count(_) => Word::Count,
+        Call::Peek(_) => Word::Peek,
+        Call::PeekAt(_, _) => Word::PeekAt,
+        Call::Purge(_) => Word::Purge,
+        Call::Used(_) => Word::Used,
+        Call::Free(_) => Word::Free,
+        Call::Raise(_, _) => Word::Raise,
+        Call::Clear(_) => Word::Clear,
+        Call::Check(_) => Word::Check,
+        Call::Finish(_) => Word::Finish,
+        Call::Mask(_, _, _) => Word::Mask,
+        Call::Enable(_, _) => Word::Enable,
+        Call::Grant(_, _) => Word::Grant,
+        Call::Release(_) => Word::Release,
+        Call::Revoke(_, _) => Word::Revoke,
+        Call::Public(_) => Word::Public,
+        Call::Init(_) => Word::Init,
+        Call::User => Word::User,
+        _ => unreachable!(),
+    }
+}
+
 /// Does what the reply to a step does to its call, by the kind of the call's plan: none is made.
 pub fn call_goes_on(
     call: &Call,
@@ -505,35 +488,6 @@ pub fn call_goes_on(
         Call::Publish(_, _, _) => channel_goes_on(Word::Publish, reply, step, stage, answers),
         Call::Notify(_, _) => channel_goes_on(Word::Notify, reply, step, stage, answers),
         Call::Read(_, _) => channel_goes_on(Word::Read, reply, step, stage, answers),
-        Call::Submit(_, _) => answer_by(Word::Submit, reply, step, stage, answers),
-        Call::Cancel(_) => answer_by(Word::Cancel, reply, step, stage, answers),
-        Call::Schedule(_, _, _) => answer_by(Word::Schedule, reply, step, stage, answers),
-        Call::Reschedule(_, _, _) => answer_by(Word::Reschedule, reply, step, stage, answers),
-        Call::Remaining(_) => answer_by(Word::Remaining, reply, step, stage, answers),
-        Call::Busy(_) => answer_by(Word::Busy, reply, step, stage, answers),
-        Call::Start(_) => answer_by(Word::Start, reply, step, stage, answers),
-        Call::Unplug(_) => answer_by(Word::Unplug, reply, step, stage, answers),
-        Call::Stop(_) => answer_by(Word::Stop, reply, step, stage, answers),
-        Call::PutFront(_, _) => answer_by(Word::PutFront, reply, step, stage, answers),
-        Call::Give(_) => answer_by(Word::Give, reply, step, stage, answers),
-        Call::Reset(_) => answer_by(Word::Reset, reply, step, stage, answers),
-        Call::Count(_) => answer_by(Word::Count, reply, step, stage, answers),
-        Call::Peek(_) => answer_by(Word::Peek, reply, step, stage, answers),
-        Call::PeekAt(_, _) => answer_by(Word::PeekAt, reply, step, stage, answers),
-        Call::Purge(_) => answer_by(Word::Purge, reply, step, stage, answers),
-        Call::Used(_) => answer_by(Word::Used, reply, step, stage, answers),
-        Call::Free(_) => answer_by(Word::Free, reply, step, stage, answers),
-        Call::Raise(_, _) => answer_by(Word::Raise, reply, step, stage, answers),
-        Call::Clear(_) => answer_by(Word::Clear, reply, step, stage, answers),
-        Call::Check(_) => answer_by(Word::Check, reply, step, stage, answers),
-        Call::Finish(_) => answer_by(Word::Finish, reply, step, stage, answers),
-        Call::Mask(_, _, _) => answer_by(Word::Mask, reply, step, stage, answers),
-        Call::Enable(_, _) => answer_by(Word::Enable, reply, step, stage, answers),
-        Call::Grant(_, _) => answer_by(Word::Grant, reply, step, stage, answers),
-        Call::Release(_) => answer_by(Word::Release, reply, step, stage, answers),
-        Call::Revoke(_, _) => answer_by(Word::Revoke, reply, step, stage, answers),
-        Call::Public(_) => answer_by(Word::Public, reply, step, stage, answers),
-        Call::Init(_) => answer_by(Word::Init, reply, step, stage, answers),
-        Call::User => answer_by(Word::User, reply, step, stage, answers),
+        _ => answer_by(only_word(call), reply, step, stage, answers),
     }
 }
