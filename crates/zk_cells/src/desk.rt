@@ -22,6 +22,37 @@ pub struct Desk<'a, R: Wait> {
     pub passes: Passes,
 }
 
+/// One attempt at a service of which there is one, by the names of its cell and its pass and of its kind of reply.
+macro_rules! at_service {
+    ($desk:expr, $cell:ident, $who:expr, $number:expr, $op:expr, $kind:ident) => {{
+        let made = visit(
+            $desk.rt,
+            &$desk.cells.$cell,
+            &mut $desk.passes.$cell,
+            $who,
+            $number,
+            *$op,
+        )?;
+        Ok(made.map(|made| StepReply::$kind(made.0, made.1)))
+    }};
+}
+
+/// One attempt at an object of a kind of which there are many.
+macro_rules! at_object {
+    ($desk:expr, $cells:ident, $object:expr, $who:expr, $number:expr, $op:expr, $kind:ident) => {{
+        let made = visit_at(
+            $desk.rt,
+            &$desk.cells.$cells,
+            &mut $desk.passes.$cells,
+            *$object,
+            $who,
+            $number,
+            *$op,
+        )?;
+        Ok(made.map(|made| StepReply::$kind(*$object, made.0, made.1)))
+    }};
+}
+
 impl<'a, R: Wait> Services for Desk<'a, R> {
     type Home = Cells;
 
@@ -61,87 +92,13 @@ impl<'a, R: Wait> Services for Desk<'a, R> {
             desk_counts self.new.passes step.now ≡ counted (desk_counts self.old.passes step.now)) }
     {
         match step {
-            Step::Work(op) => {
-                let made = visit(
-                    self.rt,
-                    &self.cells.work,
-                    &mut self.passes.work,
-                    who,
-                    number,
-                    *op,
-                )?;
-                Ok(made.map(|made| StepReply::Work(made.0, made.1)))
-            }
-            Step::Clock(op) => {
-                let made = visit(
-                    self.rt,
-                    &self.cells.clock,
-                    &mut self.passes.clock,
-                    who,
-                    number,
-                    *op,
-                )?;
-                Ok(made.map(|made| StepReply::Clock(made.0, made.1)))
-            }
-            Step::Table(op) => {
-                let made = visit(
-                    self.rt,
-                    &self.cells.table,
-                    &mut self.passes.table,
-                    who,
-                    number,
-                    *op,
-                )?;
-                Ok(made.map(|made| StepReply::Table(made.0, made.1)))
-            }
-            Step::Sem(object, op) => {
-                let made = visit_at(
-                    self.rt,
-                    &self.cells.sems,
-                    &mut self.passes.sems,
-                    *object,
-                    who,
-                    number,
-                    *op,
-                )?;
-                Ok(made.map(|made| StepReply::Sem(*object, made.0, made.1)))
-            }
-            Step::Msgq(object, op) => {
-                let made = visit_at(
-                    self.rt,
-                    &self.cells.msgqs,
-                    &mut self.passes.msgqs,
-                    *object,
-                    who,
-                    number,
-                    *op,
-                )?;
-                Ok(made.map(|made| StepReply::Msgq(*object, made.0, made.1)))
-            }
-            Step::Chan(object, op) => {
-                let made = visit_at(
-                    self.rt,
-                    &self.cells.chans,
-                    &mut self.passes.chans,
-                    *object,
-                    who,
-                    number,
-                    *op,
-                )?;
-                Ok(made.map(|made| StepReply::Chan(*object, made.0, made.1)))
-            }
-            Step::Obs(object, op) => {
-                let made = visit_at(
-                    self.rt,
-                    &self.cells.observers,
-                    &mut self.passes.observers,
-                    *object,
-                    who,
-                    number,
-                    *op,
-                )?;
-                Ok(made.map(|made| StepReply::Obs(*object, made.0, made.1)))
-            }
+            Step::Work(op) => at_service!(self, work, who, number, op, Work),
+            Step::Clock(op) => at_service!(self, clock, who, number, op, Clock),
+            Step::Table(op) => at_service!(self, table, who, number, op, Table),
+            Step::Sem(object, op) => at_object!(self, sems, object, who, number, op, Sem),
+            Step::Msgq(object, op) => at_object!(self, msgqs, object, who, number, op, Msgq),
+            Step::Chan(object, op) => at_object!(self, chans, object, who, number, op, Chan),
+            Step::Obs(object, op) => at_object!(self, observers, object, who, number, op, Obs),
             Step::Signal(_, _) | Step::LookSignal(_, _) | Step::LookItem(_) => Ok(quick_attempt(
                 self.cells,
                 &mut self.passes,
