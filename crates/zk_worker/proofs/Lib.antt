@@ -2,6 +2,7 @@ pub mod DeclaredObjects
 pub mod Lists
 mod KeptAnswers
 pub mod Moving
+mod OneStep
 pub mod PollMoves
 pub mod CheckedSteps
 pub mod Limits

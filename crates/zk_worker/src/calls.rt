@@ -3,7 +3,7 @@ ghost use Rattle.zk_line.specs.Calls.{word_of};
 ghost use Rattle.zk_line.specs.declared.types.Decl.{Decl};
 ghost use Rattle.zk_worker.specs.Calls.{plan_of, closing_step, plan_attempts, plan_progress};
 ghost use Rattle.zk_worker.specs.Moves.{IsDone};
-ghost use Rattle.zk_worker.specs.OneStep.{makes_one, makes_one_at_work, makes_one_at_table};
+ghost use Rattle.zk_worker.specs.OneStep.{is_one, makes_one, makes_one_at_work, makes_one_at_table};
 ghost use Rattle.zk_worker.specs.Refs.{ref_object, ref_number};
 
 use crate::moves::answer_by;
@@ -419,7 +419,8 @@ fn tick_goes_on(reply: &StepReply, step: u32, stage: &mut Stage, answers: &mut A
 /// The word of a call that makes one step.
 fn only_word(call: &Call) -> Word
     requires { makes_one call.now ≡ true }
-    ensures { result ≡ word_of call.now }
+    ensures word { result ≡ word_of call.now }
+    ensures one { (decls : List Decl) → is_one (plan_of decls call.now) ≡ true }
 {
     match call {
         Call::Submit(_, _) => Word::Submit,
