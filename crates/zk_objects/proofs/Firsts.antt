@@ -1,5 +1,5 @@
 -- What is kept at first stands for the table before the first entry.
-use Rattle.std.proofs.Common.{◌≡◌, ℕ, zero, suc, ◌+◌, ◌<◌, ◌≤◌, Bool, true, false, eqb, ltb, ◌&&◌, ◌||◌, ◌⊎◌, inl, inr, Option, Some, None, List, [], ◌∷◌, ◌++◌, length, slice_get, refl, sym, ap, subst, ◌∙◌, arith}
+use Rattle.std.proofs.Common.{◌≡◌, ℕ, zero, suc, ◌+◌, ◌<◌, ◌≤◌, Bool, true, false, eqb, ltb, ◌&&◌, ◌||◌, ◌⊎◌, inl, inr, Option, Some, None, List, [], ◌∷◌, ◌++◌, length, set, slice_get, refl, sym, ap, subst, ◌∙◌, arith}
 use Rattle.std.specs.List.{list_any}
 use Rattle.std.proofs.Math.Bool.{or-false, and-false}
 use Rattle.std.specs.Option.{option_map_or}
@@ -21,6 +21,9 @@ declares-past threads player past = ap (λ (d : Option (ℕ × Bool)). option_ma
 
 next : (a b : ℕ) → a ≤ b → (a ≡ b → ⊥) → a + 1 ≤ b
 next a b ge ne = grind arith
+
+below : (a b : ℕ) → a < b + 1 → (a ≡ b → ⊥) → a < b
+below a b le ne = grind arith
 
 -- the set of the first players has those of which a test holds: one player more
 more-so : (test : ℕ → Bool) (i p : ℕ) → ((ltb p i && test p) || (eqb i p && test i)) ≡ (ltb p (i + 1) && test p)
@@ -59,6 +62,56 @@ within-limit test player none = by (ltb player most_players) refl where
   by : (low : Bool) → ltb player most_players ≡ low → (low && test) ≡ test
   by true small = refl
   by false big = sym (none (ltb-false player most_players big))
+
+-- the player is the thread of this object, or there is no such thread among the first so many
+abbrev pub IsThreadBelow : ℕ → List (ℕ × Bool) → ℕ → ℕ → Type 0
+IsThreadBelow count threads object player =
+    ((declared : ℕ × Bool) × (slice_get threads player ≡ Some declared) × (declared.0 ≡ object))
+    ⊎ ((other : ℕ) (declared : ℕ × Bool) → other < count → slice_get threads other ≡ Some declared → declared.0 ≡ object → ⊥)
+
+-- a list after one of its places is set
+set-read : (xs : List ℕ) (i x j y : ℕ) → slice_get (set xs i x) j ≡ Some y → ((i ≡ j) × (x ≡ y)) ⊎ ((i ≡ j → ⊥) × (slice_get xs j ≡ Some y))
+set-read [] i x j y has = absurd (cc)
+set-read (z ∷ zs) zero x zero y has = inl (refl, same_Some x y has)
+set-read (z ∷ zs) zero x (suc j) y has = inr (λ same. omega arith, has)
+set-read (z ∷ zs) (suc i) x zero y has = inr (λ same. omega arith, has)
+set-read (z ∷ zs) (suc i) x (suc j) y has = by (set-read zs i x j y has) where
+  by : ((i ≡ j) × (x ≡ y)) ⊎ ((i ≡ j → ⊥) × (slice_get zs j ≡ Some y)) →
+      ((suc i ≡ suc j) × (x ≡ y)) ⊎ ((suc i ≡ suc j → ⊥) × (slice_get zs j ≡ Some y))
+  by (inl own) = inl (ap suc own.0, own.1)
+  by (inr other) = inr (λ same. other.0 (omega arith), other.1)
+
+-- the players by object number, before the first thread, once one more thread is noted, and after the last one
+pub none-noted : (threads : List (ℕ × Bool)) (object player : ℕ) → IsThreadBelow 0 threads object player
+none-noted threads object player = inr (λ other declared less is own. omega arith)
+
+pub noted-more : (threads : List (ℕ × Bool)) (i : ℕ) (thread : ℕ × Bool) (players : List ℕ) → slice_get threads i ≡ Some thread →
+    ((object player : ℕ) → slice_get players object ≡ Some player → IsThreadBelow i threads object player) →
+    (object player : ℕ) → slice_get (set players thread.0 i) object ≡ Some player → IsThreadBelow (i + 1) threads object player
+noted-more threads i thread players here before object player has = by (set-read players thread.0 i object player has) where
+  later : (thread.0 ≡ object → ⊥) →
+      ((other : ℕ) (declared : ℕ × Bool) → other < i → slice_get threads other ≡ Some declared → declared.0 ≡ object → ⊥) →
+      (other : ℕ) (declared : ℕ × Bool) → other < i + 1 → slice_get threads other ≡ Some declared → declared.0 ≡ object → ⊥
+  later apart none other declared less is own = test (eqb other i) refl where
+    test : (b : Bool) → eqb other i ≡ b → ⊥
+    test true same =
+        let one = same_Some declared thread (sym is ∙ ap (slice_get threads) (eqb-true other i same) ∙ here) in
+        apart (ap (λ (t : ℕ × Bool). t.0) (sym one) ∙ own)
+    test false differ = none other declared (below other i less (eqb-false other i differ)) is own
+
+  further : (thread.0 ≡ object → ⊥) → IsThreadBelow i threads object player → IsThreadBelow (i + 1) threads object player
+  further apart (inl found) = inl found
+  further apart (inr none) = inr (later apart none)
+
+  by : ((thread.0 ≡ object) × (i ≡ player)) ⊎ ((thread.0 ≡ object → ⊥) × (slice_get players object ≡ Some player)) →
+      IsThreadBelow (i + 1) threads object player
+  by (inl own) = inl (thread, sym (ap (slice_get threads) own.1) ∙ here, own.0)
+  by (inr other) = further other.0 (before object player other.1)
+
+pub all-noted : (threads : List (ℕ × Bool)) (i object player : ℕ) → length threads ≤ i → IsThreadBelow i threads object player → IsFirstThread threads object player
+all-noted threads i object player past (inl found) = inl found
+all-noted threads i object player past (inr none) =
+    inr (λ other declared is own. let within = slice_get_within threads other declared is in none other declared (omega arith) is own)
 
 -- the thread of an object, where it is one
 thread-found : (setup : Setup) (object player : ℕ) → IsSetup setup → IsFirstThread setup.threads object player → slice_get setup.kinds object ≡ Some kinds.Thread →

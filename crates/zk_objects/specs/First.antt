@@ -15,6 +15,11 @@ IsFirstThread threads object player =
     ((declared : ℕ × Bool) × (slice_get threads player ≡ Some declared) × (declared.0 ≡ object))
     ⊎ ((other : ℕ) (declared : ℕ × Bool) → slice_get threads other ≡ Some declared → declared.0 ≡ object → ⊥)
 
+-- the players of the threads of so many objects, by object number
+pub record ArePlayers (threads : List (ℕ × Bool)) (objects : ℕ) (players : List ℕ) : Type 0 where
+  pub long : length players ≡ objects
+  pub each : (object player : ℕ) → slice_get players object ≡ Some player → IsFirstThread threads object player
+
 -- the same declarations with other permissions
 abbrev pub allowing : List (ℕ × ℕ) → Setup → Setup
 allowing allowed setup = record setup { allowed = allowed }

@@ -1,8 +1,8 @@
-ghost use Rattle.std.specs.Prelude.{◌≡◌, ℕ, ◌&&◌, ◌≤◌, nat_lt, Some, [], length, slice_get, IfOk};
+ghost use Rattle.std.specs.Prelude.{◌≡◌, ℕ, ◌&&◌, ◌≤◌, nat_lt, Some, [], length, set, slice_get, IfOk};
 ghost use Rattle.zk_base.specs.Limits.{most_players};
 ghost use Rattle.zk_model_bus.specs.Table.{IsSetup, new_table};
 ghost use Rattle.zk_objects.specs.Kept.{IsObject};
-ghost use Rattle.zk_objects.specs.First.{AreFirst, allowing, declares_user, IsFirstThread};
+ghost use Rattle.zk_objects.specs.First.{AreFirst, ArePlayers, allowing, declares_user, IsFirstThread};
 ghost use Rattle.zk_objects.specs.Players.{has};
 
 use crate::object::{Object, grant};
@@ -34,23 +34,36 @@ pub fn first_users(threads: &[(u32, bool)]) -> PlayerSet
     users
 }
 
-/// The player of a thread's object. `MOST_PLAYERS` where there is none.
-fn first_player(threads: &[(u32, bool)], object: usize) -> u32
-    requires { length threads.now ≤ most_players }
-    ensures { IsFirstThread threads.now object result }
+/// Notes the player of a thread at its object's number.
+fn note_player(players: &mut Vec<u32>, object: usize, player: u32)
+    ensures { players.new.items ≡ set players.old.items object player }
 {
-    for (player, thread) in threads.iter().enumerate() {
-        if thread.0 as usize == object {
-            return player as u32;
-        }
+    if object < players.len() {
+        players[object] = player;
     }
-    MOST_PLAYERS
 }
 
-/// What is kept of an object of this kind before any permission is given.
-fn first_object(setup: &TableSetup, object: usize, kind: Kind) -> Object
+/// The player of each object's thread, by object number. `MOST_PLAYERS` where there is none.
+fn thread_players(
+    alloc: Global,
+    threads: &[(u32, bool)],
+    objects: usize,
+) -> Result<Vec<u32>, NoMemory>
+    requires { length threads.now ≤ most_players }
+    ensures { IfOk result (λ players. ArePlayers threads.now objects players.items) }
+{
+    let mut players = vec![in alloc; MOST_PLAYERS; objects]?;
+    for (player, thread) in threads.iter().enumerate() {
+        note_player(&mut players, thread.0 as usize, player as u32);
+    }
+    Ok(players)
+}
+
+/// What is kept of an object of this kind before any permission is given. The player is its thread's, if it is one.
+fn first_object(setup: &TableSetup, object: usize, kind: Kind, player: u32) -> Object
     requires setup { IsSetup setup.now }
     requires kind { slice_get setup.now.kinds object ≡ Some kind }
+    requires player { IsFirstThread setup.now.threads object player }
     ensures { IsObject (new_table (allowing [] setup.now)) object result }
 {
     Object {
@@ -58,7 +71,7 @@ fn first_object(setup: &TableSetup, object: usize, kind: Kind) -> Object
         granted: PlayerSet::none(),
         public: false,
         ready: setup.ready[object],
-        player: first_player(&setup.threads, object),
+        player,
     }
 }
 
@@ -67,9 +80,10 @@ fn bare_objects(alloc: Global, setup: &TableSetup) -> Result<Vec<Object>, NoMemo
     requires { IsSetup setup.now }
     ensures { IfOk result (λ objects. AreFirst (allowing [] setup.now) objects.items) }
 {
+    let players = thread_players(alloc, &setup.threads, setup.kinds.len())?;
     let mut objects = Vec::new(alloc);
     for (object, kind) in setup.kinds.iter().enumerate() {
-        objects.push(first_object(setup, object, *kind))?;
+        objects.push(first_object(setup, object, *kind, players[object]))?;
     }
     Ok(objects)
 }
