@@ -1,9 +1,11 @@
 -- The bits of a word, and the sets of players that words make.
-use Rattle.std.proofs.Common.{◌≡◌, ◌≢◌, ℕ, ◌+◌, ◌*◌, ◌-◌, ◌/◌, ◌%◌, ◌^◌, ◌<◌, Bool, true, false, not, eqb, ltb, cond, ◌&&◌, ◌||◌, List, length, get_or, set, bit_and, bit_or, refl, sym, ap, ◌∙◌, arith}
+use Rattle.std.proofs.Common.{◌≡◌, ◌≢◌, ℕ, ◌+◌, ◌*◌, ◌-◌, ◌/◌, ◌%◌, ◌^◌, ◌<◌, Bool, true, false, not, eqb, ltb, cond, ◌&&◌, ◌||◌}
+use Rattle.std.proofs.Common.{List, length, get_or, set, bit_and, bit_or, refl, sym, ap, ◌∙◌, arith}
 use Rattle.std.proofs.Math.Bool.{or-false, or-true, and-false, and-true}
 use Rattle.std.proofs.lemmas.Bool.{eqb-true, eqb-false, ne_eqb, lt-ltb}
 use Rattle.std.proofs.lemmas.List.{get_or-set_same, get_or-set_other}
-use Rattle.std.proofs.lemmas.Nat.{and_or_self, and_or_apart, and_assoc, and-not, and_block, and_le_r, pow_apart, pow_pos, pow_below, mod_below}
+use Rattle.std.proofs.lemmas.Nat.{and_or_self, and_or_apart, and_assoc, and-not, and_block, and_le_r, pow_apart, pow_pos}
+use Rattle.std.proofs.lemmas.Nat.{pow_below, mod_below}
 use Rattle.zk_base.specs.Limits.{most_players}
 use Rattle.zk_objects.specs.Players.{word_bits, has_bit, with_bit, without_bit, has_player}
 
@@ -54,13 +56,15 @@ apart-bits player other apart word bit = apart (omega arith)
 -- words where the word of a player is made another: one that has its bit put so, and the other bits as they were
 put-player : (words : List ℕ) (player other made : ℕ) (put : Bool) → player / word_bits < length words →
     has_bit made (player % word_bits) ≡ put →
-    ((bit : ℕ) → bit < word_bits → player % word_bits ≢ bit → has_bit made bit ≡ has_bit (get_or words (player / word_bits) 0) bit) →
+    ((bit : ℕ) → bit < word_bits → player % word_bits ≢ bit →
+    has_bit made bit ≡ has_bit (get_or words (player / word_bits) 0) bit) →
     has_player (set words (player / word_bits) made) other ≡ cond (eqb player other) put (has_player words other)
 put-player words player other made put within own others = by (eqb player other) refl where
   here : has_player (set words (player / word_bits) made) player ≡ put
   here = ap (λ (w : ℕ). has_bit w (player % word_bits)) (get_or-set_same words (player / word_bits) made 0 within) ∙ own
 
-  there : player ≢ other → (b : Bool) → eqb (player / word_bits) (other / word_bits) ≡ b → has_player (set words (player / word_bits) made) other ≡ has_player words other
+  there : player ≢ other → (b : Bool) → eqb (player / word_bits) (other / word_bits) ≡ b →
+      has_player (set words (player / word_bits) made) other ≡ has_player words other
   there apart true same =
       let word = eqb-true (player / word_bits) (other / word_bits) same in
       ap (λ (at : ℕ). has_bit (get_or (set words (player / word_bits) made) at 0) (other % word_bits)) (sym word)
@@ -71,20 +75,24 @@ put-player words player other made put within own others = by (eqb player other)
       ap (λ (w : ℕ). has_bit w (other % word_bits)) (get_or-set_other words (player / word_bits) (other / word_bits) made 0
       (λ same. eqb-false (player / word_bits) (other / word_bits) differ (sym same)))
 
-  by : (b : Bool) → eqb player other ≡ b → has_player (set words (player / word_bits) made) other ≡ cond b put (has_player words other)
+  by : (b : Bool) → eqb player other ≡ b →
+      has_player (set words (player / word_bits) made) other ≡ cond b put (has_player words other)
   by true same = ap (has_player (set words (player / word_bits) made)) (sym (eqb-true player other same)) ∙ here
   by false differ = there (eqb-false player other differ) (eqb (player / word_bits) (other / word_bits)) refl
 
 -- the words with the bit of a player set, and without it
 given-player : (words : List ℕ) (player other : ℕ) → player / word_bits < length words →
-    has_player (set words (player / word_bits) (with_bit (get_or words (player / word_bits) 0) (player % word_bits))) other ≡ cond (eqb player other) true (has_player words other)
+    has_player (set words (player / word_bits) (with_bit (get_or words (player / word_bits) 0) (player % word_bits))) other
+    ≡ cond (eqb player other) true (has_player words other)
 given-player words player other within =
     let word = get_or words (player / word_bits) 0 in
     let bit = player % word_bits in
-    put-player words player other (with_bit word bit) true within (with-own word bit) (λ other_bit small apart. with-other word bit other_bit apart)
+    put-player words player other (with_bit word bit) true within (with-own word bit)
+    (λ other_bit small apart. with-other word bit other_bit apart)
 
 taken-player : (words : List ℕ) (player other : ℕ) → player / word_bits < length words →
-    has_player (set words (player / word_bits) (without_bit (get_or words (player / word_bits) 0) (player % word_bits))) other ≡ cond (eqb player other) false (has_player words other)
+    has_player (set words (player / word_bits) (without_bit (get_or words (player / word_bits) 0) (player % word_bits))) other
+    ≡ cond (eqb player other) false (has_player words other)
 taken-player words player other within =
     let word = get_or words (player / word_bits) 0 in
     let bit = player % word_bits in
@@ -93,22 +101,29 @@ taken-player words player other within =
 
 -- the set with one player more, and with one less
 pub inserted : (words : List ℕ) (player other : ℕ) → player < most_players → player / word_bits < length words →
-    (ltb other most_players && has_player (set words (player / word_bits) (with_bit (get_or words (player / word_bits) 0) (player % word_bits))) other)
+    (ltb other most_players && has_player (set words (player / word_bits)
+    (with_bit (get_or words (player / word_bits) 0) (player % word_bits))) other)
     ≡ ((ltb other most_players && has_player words other) || (eqb player other && ltb player most_players))
 inserted words player other small within =
     ap (λ (b : Bool). ltb other most_players && b) (given-player words player other within) ∙ by (eqb player other) refl where
       by : (b : Bool) → eqb player other ≡ b →
-          (ltb other most_players && cond b true (has_player words other)) ≡ ((ltb other most_players && has_player words other) || (b && ltb player most_players))
+          (ltb other most_players && cond b true (has_player words other))
+          ≡ ((ltb other most_players && has_player words other) || (b && ltb player most_players))
       by true same =
           let low : ltb player most_players ≡ true = lt-ltb player most_players small in
           and-true (ltb other most_players) ∙ ap (λ (k : ℕ). ltb k most_players) (sym (eqb-true player other same)) ∙ low
-          ∙ sym (ap (λ (b : Bool). (ltb other most_players && has_player words other) || b) low ∙ or-true (ltb other most_players && has_player words other))
+          ∙ sym (ap (λ (b : Bool). (ltb other most_players && has_player words other) || b) low
+          ∙ or-true (ltb other most_players && has_player words other))
       by false differ = sym (or-false (ltb other most_players && has_player words other))
 
 pub removed : (words : List ℕ) (player other : ℕ) → player / word_bits < length words →
-    (ltb other most_players && has_player (set words (player / word_bits) (without_bit (get_or words (player / word_bits) 0) (player % word_bits))) other)
+    (ltb other most_players && has_player (set words (player / word_bits)
+    (without_bit (get_or words (player / word_bits) 0) (player % word_bits))) other)
     ≡ ((ltb other most_players && has_player words other) && not (eqb player other))
-removed words player other within = ap (λ (b : Bool). ltb other most_players && b) (taken-player words player other within) ∙ by (eqb player other) where
-  by : (b : Bool) → (ltb other most_players && cond b false (has_player words other)) ≡ ((ltb other most_players && has_player words other) && not b)
-  by true = and-false (ltb other most_players) ∙ sym (and-false (ltb other most_players && has_player words other))
-  by false = sym (and-true (ltb other most_players && has_player words other))
+removed words player other within =
+    ap (λ (b : Bool). ltb other most_players && b) (taken-player words player other within) ∙ by (eqb player other) where
+      by : (b : Bool) →
+          (ltb other most_players && cond b false (has_player words other))
+          ≡ ((ltb other most_players && has_player words other) && not b)
+      by true = and-false (ltb other most_players) ∙ sym (and-false (ltb other most_players && has_player words other))
+      by false = sym (and-true (ltb other most_players && has_player words other))

@@ -1,5 +1,6 @@
 -- Inner: no contract of a top call is made of this file.
-use Rattle.std.specs.Prelude.{◌≡◌, ℕ, ◌<◌, Bool, true, false, not, ◌==◌, ◌&&◌, ◌||◌, nat_lt, if◌then◌else◌, Option, Some, None, List, length, slice_get}
+use Rattle.std.specs.Prelude.{◌≡◌, ℕ, ◌<◌, Bool, true, false, not, ◌==◌, ◌&&◌, ◌||◌, nat_lt, if◌then◌else◌, Option, Some, None}
+use Rattle.std.specs.Prelude.{List, length, slice_get}
 use Rattle.std.specs.Option.{option_map_or}
 use Rattle.zk_base.specs.declared.kinds.Kind.TheVariants as kinds
 use Rattle.zk_base.specs.declared.kinds.Need.{Need}

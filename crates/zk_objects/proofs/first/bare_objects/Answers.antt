@@ -10,7 +10,6 @@ use Rattle.zk_objects.proofs.first.bare_objects.Goals as goal
 
 pub first_object-requires-clause-player : goal.first_object-requires-clause-player
 first_object-requires-clause-player c =
-    let own = c.args.setup.now in
     let object = c.loop-object.object in
     let player = c.index.result.now in
     let players = c.in_ok-players.players.items in
@@ -29,5 +28,6 @@ loop-object-preserved c =
     let long = c.loop-object.invariant.0 in
     let last = subst (λ (n : ℕ). IsObject (new_table setup) n y) (sym long) c.first_object.ensures in (
       ap length items ∙ length-append xs (y ∷ []) ∙ ap (λ (n : ℕ). n + 1) long,
-      λ object x has. objects-more setup xs y last c.loop-object.invariant.1 object x (subst (λ (l : List Object). slice_get l object ≡ Some x) items has),
+      λ object x has. objects-more setup xs y last c.loop-object.invariant.1 object x
+          (subst (λ (l : List Object). slice_get l object ≡ Some x) items has),
     )

@@ -8,4 +8,5 @@ use Rattle.zk_objects.proofs.first.bare_objects.Given as goal
 abbrev pub invariant-loop-object : goal.invariant-loop-object
 invariant-loop-object l =
     (length l.objects.items ≡ l.object)
-    × ((object : ℕ) (x : Object) → slice_get l.objects.items object ≡ Some x → IsObject (new_table (allowing [] l.setup)) object x)
+    × ((object : ℕ) (x : Object) → slice_get l.objects.items object ≡ Some x →
+    IsObject (new_table (allowing [] l.setup)) object x)

@@ -11,7 +11,8 @@ returns c =
     let view = c.setup.view_is in
     let within = slice_get_within setup.kinds object c.args.kind c.requires.kind in
     let long = c.requires.setup.long in
-    let ready = subst (λ (l : List Bool). c.index.result.now ≡ get_or l object c.index.result.now) (ap (λ (s : Setup). s.ready) view) c.index.ensures in
+    let ready = subst (λ (l : List Bool). c.index.result.now ≡ get_or l object c.index.result.now)
+    (ap (λ (s : Setup). s.ready) view) c.index.ensures in
     first-object setup object _ c.requires.setup c.requires.kind c.none.ensures refl
     (slice_get_read setup.ready (length setup.ready) object c.index.result.now refl (omega arith) ready)
     c.requires.player

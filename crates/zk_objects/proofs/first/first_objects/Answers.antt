@@ -20,11 +20,14 @@ loop-permission-preserved c =
     let named = All-get_or Names own i (0, 0) within (subst (All Names) (sym same) c.requires.allowed) in
     let few = c.requires.few in
     let small : (get_or own i (0, 0)).0 < most_players = omega (arith, named.0, few) in
-    let before = subst (λ (l : List (ℕ × ℕ)). AreFirst (allowing (take i l) setup) c.loop-permission.objects.items) (sym same) c.loop-permission.invariant in
-    let more = allowed-more setup (take i own) (get_or own i (0, 0)) c.loop-permission.objects.items objects small before (c.grant.ensures 0) in
+    let before = subst (λ (l : List (ℕ × ℕ)). AreFirst (allowing (take i l) setup) c.loop-permission.objects.items)
+    (sym same) c.loop-permission.invariant in
+    let more = allowed-more setup (take i own) (get_or own i (0, 0)) c.loop-permission.objects.items objects small before
+    (c.grant.ensures 0) in
     let plus : suc i ≡ i + 1 = omega arith in
     let grown = ap (λ (n : ℕ). take n own) (sym plus) ∙ take-suc own i (0, 0) within in
-    subst (λ (l : List (ℕ × ℕ)). AreFirst (allowing (take (i + 1) l) setup) objects) same (subst (λ (l : List (ℕ × ℕ)). AreFirst (allowing l setup) objects) (sym grown) more)
+    subst (λ (l : List (ℕ × ℕ)). AreFirst (allowing (take (i + 1) l) setup) objects) same
+    (subst (λ (l : List (ℕ × ℕ)). AreFirst (allowing l setup) objects) (sym grown) more)
 
 pub returns : goal.returns
 returns c =
@@ -32,4 +35,5 @@ returns c =
     let i = c.loop-permission.permission-index in
     let same = c.deref-permission-items.ensures.value ∙ ap (λ (s : Setup). s.allowed) c.setup.view_is in
     let end : length setup.allowed ≤ i = subst (λ (l : List (ℕ × ℕ)). length l ≤ i) same c.loop-permission-test.false in
-    subst (λ (l : List (ℕ × ℕ)). AreFirst (allowing l setup) c.loop-permission.objects.items) (take_all i setup.allowed end) c.loop-permission.invariant
+    subst (λ (l : List (ℕ × ℕ)). AreFirst (allowing l setup) c.loop-permission.objects.items)
+    (take_all i setup.allowed end) c.loop-permission.invariant

@@ -15,11 +15,14 @@ loop-player-preserved c = λ p.
     elim c.if-begins_as_user.branch [
       | then-begins_as_user w ↦
           ap (λ (s : PlayerSet). has s p) w.users-is ∙ w.insert.ensures p
-          ∙ one-more test player p (has old p) c.loop-player-test.true (sym c.begins_as_user.ensures ∙ w.if-begins_as_user.true) before
+          ∙ one-more test player p (has old p) c.loop-player-test.true (sym c.begins_as_user.ensures ∙ w.if-begins_as_user.true)
+          before
       | else-begins_as_user w ↦
-          ap (λ (s : PlayerSet). has s p) w.users-is ∙ none-more test player p (has old p) (sym c.begins_as_user.ensures ∙ w.if-begins_as_user.false) before
+          ap (λ (s : PlayerSet). has s p) w.users-is
+          ∙ none-more test player p (has old p) (sym c.begins_as_user.ensures ∙ w.if-begins_as_user.false) before
     ]
 
 pub returns : goal.returns
 returns c = λ p.
-    all-seen (declares_user c.args.threads.now) c.loop-player.player p (has c.loop-player.users p) c.loop-player-test.false c.loop-player.auto.player-end (c.loop-player.invariant p)
+    all-seen (declares_user c.args.threads.now) c.loop-player.player p
+    (has c.loop-player.users p) c.loop-player-test.false c.loop-player.auto.player-end (c.loop-player.invariant p)

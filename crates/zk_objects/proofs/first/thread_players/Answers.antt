@@ -13,7 +13,8 @@ loop-player-preserved c =
     let noted = c.note_player.ensures in (
       ap length noted ∙ length-set players _ _ ∙ c.loop-player.invariant.0,
       λ object player has.
-          noted-more threads i thread players (slice_get-get_or threads i (0, false) c.loop-player-test.true) c.loop-player.invariant.1
+          noted-more threads i thread players (slice_get-get_or threads i
+          (0, false) c.loop-player-test.true) c.loop-player.invariant.1
           object player (subst (λ (l : List ℕ). slice_get l object ≡ Some player) noted has),
     )
 
@@ -21,5 +22,6 @@ pub returns : goal.returns
 returns c = record {
   long = c.loop-player.invariant.0;
   each = λ object player has.
-      all-noted c.args.threads.now c.loop-player.player object player c.loop-player-test.false (c.loop-player.invariant.1 object player has);
+      all-noted c.args.threads.now c.loop-player.player object player c.loop-player-test.false
+      (c.loop-player.invariant.1 object player has);
 }

@@ -16,8 +16,10 @@ returns-in_default c =
     record {
       reply = reply;
       objects = refl;
-      users = λ other. unmarked (is_marked old.users other) (eqb player other) (enters op) (enters-none op c.in_default.not-EnterUser-0);
-      dead = λ other. unmarked (is_marked old.dead other) (eqb player other) (is_oops (answered old.objects.items player op)) no-oops;
+      users = λ other. unmarked (is_marked old.users other) (eqb player other) (enters op)
+          (enters-none op c.in_default.not-EnterUser-0);
+      dead = λ other. unmarked (is_marked old.dead other) (eqb player other)
+          (is_oops (answered old.objects.items player op)) no-oops;
       same_users = tt;
       same_dead = tt;
       roomy = λ users dead. refl;

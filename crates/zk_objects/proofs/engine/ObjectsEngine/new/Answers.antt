@@ -10,7 +10,8 @@ use Rattle.zk_objects.proofs.engine.ObjectsEngine.new.Goals as goal
 pub returns : goal.returns
 returns c =
     let same = c.deref.ensures.value ∙ ap (λ (s : Setup). s.threads) c.setup.view_is in
-    stands-first c.args.setup.now c.in_ok-first_objects.field-0.items c.new.result c.new-2.result c.requires c.in_ok-first_objects.ensures
+    stands-first c.args.setup.now c.in_ok-first_objects.field-0.items c.new.result c.new-2.result c.requires
+    c.in_ok-first_objects.ensures
     (λ player.
     ap (λ (s : PlayerSet). has s player) c.new.ensures.within ∙ c.first_users.ensures player
     ∙ ap (λ (threads : List (ℕ × Bool)). ltb player most_players && declares_user threads player) same)

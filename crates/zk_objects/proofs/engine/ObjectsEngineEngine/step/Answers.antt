@@ -16,8 +16,10 @@ returns-clause-step c = λ s stands.
     let alive = sym c.has.ensures ∙ c.if-has.false in
     let mode = ap (λ (user : Bool). is_for user op) (sym c.has-else-has.ensures) ∙ sym c.is_for.ensures ∙ c.if-not-is_for.false in
     let marks = c.in_ok-reply.ensures in
-    let made = subst (λ (os : List Object). AreChanged (target_of os who.number op) op os c.change.new.objects.items) marks.objects c.change.ensures in
-    let next = stands-next s objects c.change.new.objects.items old.users old.dead c.mark.new.self.users c.mark.new.self.dead who op stands range made marks.users marks.dead in (
+    let made = subst (λ (os : List Object). AreChanged (target_of os who.number op) op os c.change.new.objects.items)
+    marks.objects c.change.ensures in
+    let next = stands-next s objects c.change.new.objects.items old.users old.dead c.mark.new.self.users c.mark.new.self.dead who
+    op stands range made marks.users marks.dead in (
       reply-so s objects old.users old.dead who op c.in_ok-reply.reply stands range alive mode marks.reply,
       refl,
       next,
