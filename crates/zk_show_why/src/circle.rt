@@ -45,9 +45,9 @@ fn tell_circle(story: &mut Story, enders: &[Option<usize>], player: usize) {
             break;
         };
         let told = match number {
-            0 if next == at => Told::CIRCLE_OF_ONE,
-            0 => Told::CIRCLE,
-            _ => Told::CIRCLE_ON,
+            0 if next == at => Told::CircleOfOne,
+            0 => Told::Circle,
+            _ => Told::CircleOn,
         };
         let mut saying = Saying::of(told).player(at);
         saying.other = next;
@@ -57,5 +57,5 @@ fn tell_circle(story: &mut Story, enders: &[Option<usize>], player: usize) {
         }
         at = next;
     }
-    story.say(Saying::of(Told::LINE_END));
+    story.say(Saying::of(Told::LineEnd));
 }

@@ -14,9 +14,40 @@ pub struct Span {
 /// What would be accepted instead.
 #[derive(Clone, Copy)]
 pub enum Accepted {
-    /// What these words say.
-    Said(&'static [u8]),
-    /// A name that nothing before it has.
+    // Of a whole text, and of the bytes of a line.
+    WholeText,
+    Header,
+    LastFeed,
+    OneFeed,
+    OneSpace,
+    PlainBytes,
+    // The text without something of it.
+    WithoutLine,
+    Without,
+    // Words that are spelled right.
+    Line,
+    FormattedLine,
+    Name,
+    Event,
+    Wait,
+    Priority,
+    Validator,
+    Raw,
+    // The line elsewhere, or among others.
+    InFront,
+    EndFirst,
+    EndHere,
+    FirstScript,
+    ScriptBefore,
+    UserInThread,
+    InThreadOrItem,
+    InThread,
+    Elsewhere,
+    // Other numbers and names.
+    Once,
+    OtherNumber,
+    InRange,
+    Declared,
     NewName,
     /// A line of this form.
     Form(Head),

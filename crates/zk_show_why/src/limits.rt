@@ -12,18 +12,18 @@ pub fn limit_finding(before: &Before, line: &[u8], parts: &PlacedParts<'_>) -> F
     let head = parts.head;
     if let Some(word) = behind_most(parts) {
         let cause = match head {
-            Head::Declare(_) => Cause::MANY_OBSERVERS,
-            _ => Cause::MANY_EVENTS,
+            Head::Declare(_) => Cause::ManyObservers,
+            _ => Cause::ManyEvents,
         };
-        return Finding::on(cause, word, Accepted::WITHOUT);
+        return Finding::on(cause, word, Accepted::Without);
     }
     let cause = match head {
         Head::Declare(kind) => kind_limit(before, kind),
-        _ => Cause::MANY_CALLS,
+        _ => Cause::ManyCalls,
     };
     match PlacedWords::of(line).next() {
-        Some(first) => Finding::on(cause, first, Accepted::WITHOUT),
-        None => Finding::unmarked(cause, Accepted::WITHOUT),
+        Some(first) => Finding::on(cause, first, Accepted::Without),
+        None => Finding::unmarked(cause, Accepted::Without),
     }
 }
 
@@ -54,20 +54,20 @@ fn behind_most<'a>(parts: &PlacedParts<'a>) -> Option<PlacedWord<'a>> {
 
 fn kind_limit(before: &Before, kind: Kind) -> Cause {
     match kind {
-        Kind::Thread => Cause::MANY_PLAYERS,
+        Kind::Thread => Cause::ManyPlayers,
         Kind::Queue => {
             if MOST_QUEUES <= before.scenario.queues().len() {
-                Cause::MANY_QUEUES
+                Cause::ManyQueues
             } else {
-                Cause::MANY_PLAYERS
+                Cause::ManyPlayers
             }
         }
-        Kind::Item => Cause::MANY_ITEMS,
-        Kind::Sem => Cause::MANY_SEMS,
-        Kind::Msgq => Cause::MANY_MSGQS,
-        Kind::Signal => Cause::MANY_SIGNALS,
-        Kind::Listener => Cause::MANY_LISTENING,
-        Kind::Sub => Cause::MANY_LISTENING,
-        Kind::Chan => Cause::MANY_CHANS,
+        Kind::Item => Cause::ManyItems,
+        Kind::Sem => Cause::ManySems,
+        Kind::Msgq => Cause::ManyMsgqs,
+        Kind::Signal => Cause::ManySignals,
+        Kind::Listener => Cause::ManyListening,
+        Kind::Sub => Cause::ManyListening,
+        Kind::Chan => Cause::ManyChans,
     }
 }

@@ -29,16 +29,16 @@ pub fn name_finding(
             _ => None,
         };
         if let Some(again) = again {
-            return Finding::on(Cause::OBSERVER_TWICE, again, Accepted::ONCE);
+            return Finding::on(Cause::ObserverTwice, again, Accepted::Once);
         }
     }
     match parts.head {
         // All words behind the first.
         Head::Allow => {
             let len = line.len().saturating_sub(parts.from);
-            Finding::at(Cause::ALLOWED_TWICE, parts.from, len, Accepted::ONCE)
+            Finding::at(Cause::AllowedTwice, parts.from, len, Accepted::Once)
         }
-        head => Finding::unmarked(Cause::OTHER_NAME, Accepted::Form(head)),
+        head => Finding::unmarked(Cause::OtherName, Accepted::Form(head)),
     }
 }
 
@@ -62,7 +62,7 @@ fn reserved_finding(parts: &PlacedParts<'_>) -> Option<Finding> {
     while let Some(part) = left.next() {
         if let Some((name, accepted)) = asked(part) {
             if !is_name(name) {
-                return Some(Finding::on(Cause::RESERVED, part.word, accepted));
+                return Some(Finding::on(Cause::Reserved, part.word, accepted));
             }
         }
     }
@@ -72,19 +72,19 @@ fn reserved_finding(parts: &PlacedParts<'_>) -> Option<Finding> {
 fn part_finding(before: &Before, behind: &[u8], part: PlacedPart<'_>) -> Option<Finding> {
     let (name, accepted) = asked(part)?;
     let cause = match (before.declared(name), accepted) {
-        (Some(_), Accepted::NewName) => Cause::DECLARED_TWICE,
+        (Some(_), Accepted::NewName) => Cause::DeclaredTwice,
         (None, Accepted::NewName) => return None,
         (Some(decl), _) => {
             if is_met(accepted, decl) {
                 return None;
             }
-            Cause::OTHER_KIND
+            Cause::OtherKind
         }
         (None, _) => {
             if is_declared_in(behind, name) {
-                Cause::DECLARED_LATER
+                Cause::DeclaredLater
             } else {
-                Cause::UNDECLARED
+                Cause::Undeclared
             }
         }
     };

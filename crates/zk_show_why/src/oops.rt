@@ -21,7 +21,7 @@ struct FailedCheck {
 pub fn tell_oops(story: &mut Story, run: &Run<'_>, player: usize) {
     match (run.stand(player), failed_check(run, player)) {
         (Some(stand), Some(failed)) => tell_failed(story, run, player, stand, failed),
-        _ => story.say(Saying::of(Told::ASTRAY)),
+        _ => story.say(Saying::of(Told::Astray)),
     }
 }
 
@@ -49,27 +49,27 @@ fn tell_failed(
     failed: FailedCheck,
 ) {
     if let Some(place) = stand.top() {
-        story.say(Saying::of(Told::CALLED_IN).line(place));
+        story.say(Saying::of(Told::CalledIn).line(place));
     }
-    story.say(Saying::of(Told::AT_STEP).number(run.last_step(player)));
+    story.say(Saying::of(Told::AtStep).number(run.last_step(player)));
     let Some(object) = failed.object else {
         return tell_no_object(story, run, player, stand);
     };
-    let mut saying = Saying::of(Told::IS_NOT_THERE)
+    let mut saying = Saying::of(Told::IsNotThere)
         .player(player)
         .object(Ref::Known(object));
     saying.need = failed.need;
     match failed.why {
-        OopsWhy::NoObject => story.say(saying.telling(Told::IS_NOT_THERE)),
-        OopsWhy::WrongKind => story.say(saying.telling(Told::OTHER_KIND)),
+        OopsWhy::NoObject => story.say(saying.telling(Told::IsNotThere)),
+        OopsWhy::WrongKind => story.say(saying.telling(Told::OtherKind)),
         OopsWhy::NotGranted => {
-            story.say(saying.telling(Told::NOT_GRANTED));
-            story.say(saying.telling(Told::ALLOW_WOULD));
-            story.say(saying.telling(Told::GRANT_WOULD));
+            story.say(saying.telling(Told::NotGranted));
+            story.say(saying.telling(Told::AllowWould));
+            story.say(saying.telling(Told::GrantWould));
         }
         OopsWhy::NotInit => {
-            story.say(saying.telling(Told::NOT_INITIALISED));
-            story.say(saying.telling(Told::INIT_WOULD));
+            story.say(saying.telling(Told::NotInitialised));
+            story.say(saying.telling(Told::InitWould));
         }
     }
 }
@@ -81,8 +81,8 @@ fn tell_no_object(story: &mut Story, run: &Run<'_>, player: usize, stand: &Stand
         .saturating_sub(stand.begun)
         .saturating_sub(1);
     let saying = match named_behind(run, stand, passed) {
-        Some(named) => Saying::of(Told::NOT_DECLARED).object(named),
-        None => Saying::of(Told::NO_SUCH_NAME),
+        Some(named) => Saying::of(Told::NotDeclared).object(named),
+        None => Saying::of(Told::NoSuchName),
     };
     story.say(saying);
 }

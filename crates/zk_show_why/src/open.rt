@@ -14,20 +14,20 @@ const MOST_NAMED: usize = 3;
 /// Tells where a player stands, and why.
 pub fn tell_open(story: &mut Story, run: &Run<'_>, player: usize) {
     let Some(stand) = run.stand(player) else {
-        return story.say(Saying::of(Told::ASTRAY));
+        return story.say(Saying::of(Told::Astray));
     };
     let Some(place) = stand.top() else {
         // A worker whose handler is through.
         return match stand.run {
-            Some(item) => story.say(Saying::of(Told::AT_RUN_END).object(Ref::Known(item))),
-            None => story.say(Saying::of(Told::ASTRAY)),
+            Some(item) => story.say(Saying::of(Told::AtRunEnd).object(Ref::Known(item))),
+            None => story.say(Saying::of(Told::Astray)),
         };
     };
     let waiting = run.waiting(player);
     let told = if waiting.is_some() || stand.begun < run.steps(player) {
-        Told::IN_LINE
+        Told::InLine
     } else {
-        Told::BEFORE_LINE
+        Told::BeforeLine
     };
     story.say(Saying::of(told).line(place));
     tell_around(story, run, stand);
@@ -43,11 +43,11 @@ fn tell_around(story: &mut Story, run: &Run<'_>, stand: &Stand) {
     };
     let owner = Ref::Known(place.owner);
     match run.scenario.decls().get(place.owner as usize) {
-        Some(Decl::Item(_)) => story.say(Saying::of(Told::IN_HANDLER).object(owner)),
+        Some(Decl::Item(_)) => story.say(Saying::of(Told::InHandler).object(owner)),
         Some(Decl::Listener(_)) => {
-            story.say(Saying::of(Told::IN_LISTENER).object(owner));
+            story.say(Saying::of(Told::InListener).object(owner));
             if let Some(outer) = around.last() {
-                story.say(Saying::of(Told::WITHIN_LINE).line(*outer));
+                story.say(Saying::of(Told::WithinLine).line(*outer));
             }
         }
         _ => {}
@@ -57,7 +57,7 @@ fn tell_around(story: &mut Story, run: &Run<'_>, stand: &Stand) {
 // What it waits for, since the last step, and who could end that.
 fn tell_wait(story: &mut Story, run: &Run<'_>, player: usize, call: &Call) {
     let wait = wait_in(call);
-    story.say(Saying::of(Told::SINCE_STEP).number(run.last_step(player)));
+    story.say(Saying::of(Told::SinceStep).number(run.last_step(player)));
     let mut awaited = Saying::of(wait.awaited);
     awaited.object = first_named(call);
     story.say(awaited);
@@ -74,13 +74,13 @@ fn tell_wait(story: &mut Story, run: &Run<'_>, player: usize, call: &Call) {
 fn tell_keeper(story: &mut Story, run: &Run<'_>, wait: Wait, keeper: Keeper) {
     story.say(Saying::of(wait.kept).player(keeper.player));
     if let Some(step) = keeper.since {
-        story.say(Saying::of(Told::HOLDS_SINCE).number(u64::from(step)));
+        story.say(Saying::of(Told::HoldsSince).number(u64::from(step)));
     }
     match run.state(keeper.player) {
-        Some(PlayerState::Standing) => story.say(Saying::of(Told::STANDS)),
-        Some(PlayerState::Oops) => story.say(Saying::of(Told::WAS_ENDED)),
-        Some(PlayerState::Done) => story.say(Saying::of(Told::IS_THROUGH)),
-        Some(PlayerState::Spent) => story.say(Saying::of(Told::IS_SPENT)),
+        Some(PlayerState::Standing) => story.say(Saying::of(Told::Stands)),
+        Some(PlayerState::Oops) => story.say(Saying::of(Told::WasEnded)),
+        Some(PlayerState::Done) => story.say(Saying::of(Told::IsThrough)),
+        Some(PlayerState::Spent) => story.say(Saying::of(Told::IsSpent)),
         None => {}
     }
 }
@@ -91,12 +91,12 @@ fn tell_servers(story: &mut Story, run: &Run<'_>, player: usize, call: &Call, no
     for server in 0..run.players() {
         if let Some(place) = run.ahead(player, server, call) {
             if MOST_NAMED <= named {
-                return story.say(Saying::of(Told::OTHERS_SERVE));
+                return story.say(Saying::of(Told::OthersServe));
             }
             let told = if named == 0 {
-                Told::SERVES
+                Told::Serves
             } else {
-                Told::SERVES_TOO
+                Told::ServesToo
             };
             story.say(Saying::of(told).player(server).line(place));
             named = named.saturating_add(1);
@@ -109,10 +109,10 @@ fn tell_servers(story: &mut Story, run: &Run<'_>, player: usize, call: &Call, no
 
 fn tell_nobody(story: &mut Story, run: &Run<'_>, player: usize, call: &Call, nobody: Told) {
     let saying = match first_in_handlers(run.scenario, Sought::EndOf(call)) {
-        Some(place) => Saying::of(Told::NOBODY_PLAYS)
+        Some(place) => Saying::of(Told::NobodyPlays)
             .line(place)
             .object(Ref::Known(place.owner)),
-        None if run.others_are_through(player) => Saying::of(Told::OTHERS_THROUGH),
+        None if run.others_are_through(player) => Saying::of(Told::OthersThrough),
         None => Saying::of(nobody),
     };
     story.say(saying);

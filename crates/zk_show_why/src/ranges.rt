@@ -17,7 +17,7 @@ pub fn number_finding(before: &Before, parts: &PlacedParts<'_>) -> Finding {
     }
     match parts.head {
         Head::Declare(_) => together_finding(parts),
-        head => Finding::unmarked(Cause::OUT_OF_RANGE, Accepted::Form(head)),
+        head => Finding::unmarked(Cause::OutOfRange, Accepted::Form(head)),
     }
 }
 
@@ -36,19 +36,15 @@ fn part_finding(size: Option<usize>, part: PlacedPart<'_>) -> Option<Finding> {
     match part.slot {
         Slot::Number(least, most) => match number_in(least, most, part.word.text) {
             Some(_) => None,
-            None => Some(Finding::on(
-                Cause::OUT_OF_RANGE,
-                part.word,
-                Accepted::Number(least, most),
-            )),
+            None => Some(Finding::on(Cause::OutOfRange, part.word, Accepted::Number(least, most))),
         },
         Slot::Priority => match priority_of(part.word.text) {
             Some(Some(_)) => None,
-            _ => Some(Finding::on(Cause::PRIORITY_OUT_OF_RANGE, part.word, Accepted::PRIORITY)),
+            _ => Some(Finding::on(Cause::PriorityOutOfRange, part.word, Accepted::Priority)),
         },
         Slot::Wait => match wait_of(part.word.text) {
             Some(_) => None,
-            None => Some(Finding::on(Cause::WAIT_OUT_OF_RANGE, part.word, Accepted::WAIT)),
+            None => Some(Finding::on(Cause::WaitOutOfRange, part.word, Accepted::Wait)),
         },
         Slot::Hex => message_finding(size, part),
         _ => None,
@@ -59,11 +55,11 @@ fn message_finding(size: Option<usize>, part: PlacedPart<'_>) -> Option<Finding>
     let bytes = part.word.text.len() / 2;
     match size {
         Some(size) if bytes != size => {
-            Some(Finding::on(Cause::OTHER_SIZE, part.word, Accepted::Message(Some(size))))
+            Some(Finding::on(Cause::OtherSize, part.word, Accepted::Message(Some(size))))
         }
         _ => {
             if LONGEST_MESSAGE < bytes {
-                Some(Finding::on(Cause::LONG_MESSAGE, part.word, Accepted::Message(None)))
+                Some(Finding::on(Cause::LongMessage, part.word, Accepted::Message(None)))
             } else {
                 None
             }
@@ -82,17 +78,17 @@ fn together_finding(parts: &PlacedParts<'_>) -> Finding {
                     Some(size) => Accepted::Message(Some(size as usize)),
                     None => Accepted::Message(None),
                 };
-                Finding::on(Cause::OTHER_FIRST_SIZE, limit.word, accepted)
+                Finding::on(Cause::OtherFirstSize, limit.word, accepted)
             }
             _ => {
                 let most = number_in(1, MOST_COUNT, limit.word.text).unwrap_or(MOST_COUNT);
                 Finding::on(
-                    Cause::INITIAL_ABOVE_LIMIT,
+                    Cause::InitialAboveLimit,
                     initial.word,
                     Accepted::Number(0, most),
                 )
             }
         },
-        _ => Finding::unmarked(Cause::OUT_OF_RANGE, Accepted::OTHER_NUMBER),
+        _ => Finding::unmarked(Cause::OutOfRange, Accepted::OtherNumber),
     }
 }

@@ -110,7 +110,7 @@ fn refused_line(text: &[u8], line: u32) -> Refused<'_> {
 
 fn finding_of(refused: Refused<'_>, before: Option<&Before>, why: Why) -> Finding {
     match why {
-        Why::Length => Finding::unmarked(Cause::TOO_LONG, Accepted::WHOLE_TEXT),
+        Why::Length => Finding::unmarked(Cause::TooLong, Accepted::WholeText),
         Why::Header => header_finding(refused),
         Why::Line => line_finding(refused),
         _ => match before {
@@ -123,22 +123,17 @@ fn finding_of(refused: Refused<'_>, before: Option<&Before>, why: Why) -> Findin
 fn header_finding(refused: Refused<'_>) -> Finding {
     // The first line is empty, and has no line feed.
     if refused.line.is_empty() && !refused.fed {
-        return Finding::unmarked(Cause::EMPTY, Accepted::HEADER);
+        return Finding::unmarked(Cause::Empty, Accepted::Header);
     }
     match surface_finding(refused.line) {
         Some(finding) => finding,
-        None => Finding::at(Cause::OTHER_HEADER, 0, refused.line.len(), Accepted::HEADER),
+        None => Finding::at(Cause::OtherHeader, 0, refused.line.len(), Accepted::Header),
     }
 }
 
 fn line_finding(refused: Refused<'_>) -> Finding {
     if !refused.fed {
-        return Finding::at(
-            Cause::NO_LINE_FEED,
-            refused.line.len(),
-            1,
-            Accepted::LAST_FEED,
-        );
+        return Finding::at(Cause::NoLineFeed, refused.line.len(), 1, Accepted::LastFeed);
     }
     match surface_finding(refused.line) {
         Some(finding) => finding,
@@ -161,13 +156,13 @@ fn formed_finding(refused: Refused<'_>, before: &Before, why: Why) -> Finding {
 // Where the lines before aren't those of a scenario, so that no cause can be found.
 fn unknown_finding(why: Why) -> Finding {
     let (cause, accepted) = match why {
-        Why::Header => (Cause::OTHER_HEADER, Accepted::HEADER),
-        Why::Line => (Cause::OTHER_SPELLING, Accepted::FORMATTED_LINE),
-        Why::Order => (Cause::OTHER_ORDER, Accepted::ELSEWHERE),
-        Why::Number => (Cause::OUT_OF_RANGE, Accepted::IN_RANGE),
-        Why::Name => (Cause::OTHER_NAME, Accepted::DECLARED),
-        Why::Limit => (Cause::MANY_CALLS, Accepted::WITHOUT),
-        Why::Length => (Cause::TOO_LONG, Accepted::WHOLE_TEXT),
+        Why::Header => (Cause::OtherHeader, Accepted::Header),
+        Why::Line => (Cause::OtherSpelling, Accepted::FormattedLine),
+        Why::Order => (Cause::OtherOrder, Accepted::Elsewhere),
+        Why::Number => (Cause::OutOfRange, Accepted::InRange),
+        Why::Name => (Cause::OtherName, Accepted::Declared),
+        Why::Limit => (Cause::ManyCalls, Accepted::Without),
+        Why::Length => (Cause::TooLong, Accepted::WholeText),
     };
     Finding::unmarked(cause, accepted)
 }

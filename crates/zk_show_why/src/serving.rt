@@ -77,19 +77,19 @@ pub struct Wait {
 /// What may be said of a wait in this call.
 pub fn wait_in(call: &Call) -> Wait {
     match word_of(call) {
-        Word::Take => served(Told::AWAITS_GIVE, Told::NOBODY_GIVES),
-        Word::Get => served(Told::AWAITS_MESSAGE, Told::NOBODY_PUTS),
-        Word::Put => served(Told::AWAITS_ROOM, Told::NOBODY_GETS),
-        Word::SubWait => served(Told::AWAITS_NOTICE, Told::NOBODY_PUBLISHES),
-        Word::Poll => served(Told::AWAITS_EVENT, Told::NOBODY_MAKES_READY),
-        Word::CancelSync => kept(Told::AWAITS_RUN_END, Told::OWN_RUN, Told::RUNS),
-        Word::Flush => kept(Told::AWAITS_RUN, Told::OWN_SUBMISSION, Told::HAS_TO_RUN),
-        Word::Drain => kept(Told::AWAITS_ALL, Told::OWN_QUEUE, Told::IS_ITS_WORKER),
-        Word::Claim => kept(Told::AWAITS_CHANNEL, Told::OWN_CHANNEL, Told::HOLDS),
-        Word::Publish => kept(Told::AWAITS_CHANNEL, Told::OWN_CHANNEL, Told::HOLDS),
-        Word::Notify => kept(Told::AWAITS_CHANNEL, Told::OWN_CHANNEL, Told::HOLDS),
-        Word::Read => kept(Told::AWAITS_CHANNEL, Told::OWN_CHANNEL, Told::HOLDS),
-        _ => served(Told::AWAITS_EVENT, Told::NOBODY_CALLS),
+        Word::Take => served(Told::AwaitsGive, Told::NobodyGives),
+        Word::Get => served(Told::AwaitsMessage, Told::NobodyPuts),
+        Word::Put => served(Told::AwaitsRoom, Told::NobodyGets),
+        Word::SubWait => served(Told::AwaitsNotice, Told::NobodyPublishes),
+        Word::Poll => served(Told::AwaitsEvent, Told::NobodyMakesReady),
+        Word::CancelSync => kept(Told::AwaitsRunEnd, Told::OwnRun, Told::Runs),
+        Word::Flush => kept(Told::AwaitsRun, Told::OwnSubmission, Told::HasToRun),
+        Word::Drain => kept(Told::AwaitsAll, Told::OwnQueue, Told::IsItsWorker),
+        Word::Claim => kept(Told::AwaitsChannel, Told::OwnChannel, Told::Holds),
+        Word::Publish => kept(Told::AwaitsChannel, Told::OwnChannel, Told::Holds),
+        Word::Notify => kept(Told::AwaitsChannel, Told::OwnChannel, Told::Holds),
+        Word::Read => kept(Told::AwaitsChannel, Told::OwnChannel, Told::Holds),
+        _ => served(Told::AwaitsEvent, Told::NobodyCalls),
     }
 }
 
@@ -97,8 +97,8 @@ pub fn wait_in(call: &Call) -> Wait {
 fn served(awaited: Told, nobody: Told) -> Wait {
     Wait {
         awaited,
-        own: Told::OWN_CHANNEL,
-        kept: Told::HOLDS,
+        own: Told::OwnChannel,
+        kept: Told::Holds,
         nobody,
     }
 }
@@ -109,7 +109,7 @@ fn kept(awaited: Told, own: Told, kept: Told) -> Wait {
         awaited,
         own,
         kept,
-        nobody: Told::NOBODY_CALLS,
+        nobody: Told::NobodyCalls,
     }
 }
 

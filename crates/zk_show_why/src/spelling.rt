@@ -9,11 +9,11 @@ use zk_words::{Head, Rest, Slot, head_of, is_ignore, is_spelled_in, row_of};
 pub fn spelling_finding(line: &[u8]) -> Finding {
     let mut words = PlacedWords::of(line);
     let Some(first) = words.next() else {
-        return Finding::unmarked(Cause::OTHER_SPELLING, Accepted::LINE);
+        return Finding::unmarked(Cause::OtherSpelling, Accepted::Line);
     };
     match head_of(first.text) {
         Some(head) => behind_head(line, head, &mut words).in_line(head),
-        None => plain(Cause::NO_SUCH_WORD, first, Accepted::LINE),
+        None => plain(Cause::NoSuchWord, first, Accepted::Line),
     }
 }
 
@@ -39,7 +39,7 @@ fn behind_head(line: &[u8], head: Head, words: &mut PlacedWords<'_>) -> Finding 
 
 fn missing(line: &[u8], head: Head) -> Finding {
     Finding::at(
-        Cause::WORD_MISSING,
+        Cause::WordMissing,
         line.len().saturating_add(1),
         1,
         Accepted::Form(head),
@@ -48,8 +48,8 @@ fn missing(line: &[u8], head: Head) -> Finding {
 
 fn too_many(words: &mut PlacedWords<'_>, head: Head) -> Finding {
     match words.next() {
-        Some(word) => Finding::on(Cause::WORD_TOO_MANY, word, Accepted::Form(head)),
-        None => Finding::unmarked(Cause::OTHER_SPELLING, Accepted::Form(head)),
+        Some(word) => Finding::on(Cause::WordTooMany, word, Accepted::Form(head)),
+        None => Finding::unmarked(Cause::OtherSpelling, Accepted::Form(head)),
     }
 }
 
@@ -66,7 +66,7 @@ fn many_finding(slot: Slot, words: &mut PlacedWords<'_>, head: Head) -> Finding 
             return word_finding(slot, word);
         }
     }
-    Finding::unmarked(Cause::OTHER_SPELLING, Accepted::Form(head))
+    Finding::unmarked(Cause::OtherSpelling, Accepted::Form(head))
 }
 
 fn events_finding(line: &[u8], words: &mut PlacedWords<'_>, head: Head) -> Finding {
@@ -80,7 +80,7 @@ fn events_finding(line: &[u8], words: &mut PlacedWords<'_>, head: Head) -> Findi
         }
     }
     match ignored {
-        Some(word) => Finding::on(Cause::ALL_IGNORED, word, Accepted::EVENT),
+        Some(word) => Finding::on(Cause::AllIgnored, word, Accepted::Event),
         None => missing(line, head),
     }
 }
@@ -93,40 +93,40 @@ fn word_finding(slot: Slot, word: PlacedWord<'_>) -> Finding {
         Slot::Object(_) => name_finding(word),
         Slot::Rawable => name_finding(word),
         Slot::Number(least, most) => {
-            number_finding(word, Accepted::Number(least, most), Cause::NO_NUMBER)
+            number_finding(word, Accepted::Number(least, most), Cause::NoNumber)
         }
         Slot::Priority => priority_finding(word),
-        Slot::Either(choice) => plain(Cause::NEITHER_WORD, word, Accepted::Either(choice)),
+        Slot::Either(choice) => plain(Cause::NeitherWord, word, Accepted::Either(choice)),
         Slot::Hex => hex_finding(word),
-        Slot::Wait => number_finding(word, Accepted::WAIT, Cause::NO_WAIT),
-        Slot::Event => plain(Cause::NO_EVENT, word, Accepted::EVENT),
-        Slot::Valid => plain(Cause::NO_VALIDATOR, word, Accepted::VALIDATOR),
-        Slot::Raw => plain(Cause::ONLY_RAW, word, Accepted::RAW),
+        Slot::Wait => number_finding(word, Accepted::Wait, Cause::NoWait),
+        Slot::Event => plain(Cause::NoEvent, word, Accepted::Event),
+        Slot::Valid => plain(Cause::NoValidator, word, Accepted::Validator),
+        Slot::Raw => plain(Cause::OnlyRaw, word, Accepted::Raw),
     }
 }
 
 // The word, unless a capital letter is what is wrong.
 fn plain(cause: Cause, word: PlacedWord<'_>, accepted: Accepted) -> Finding {
     match first_that(word.text, true, Sort::Capital) {
-        Some(at) => Finding::in_word(Cause::CAPITAL_LETTER, word, at, accepted),
+        Some(at) => Finding::in_word(Cause::CapitalLetter, word, at, accepted),
         None => Finding::on(cause, word, accepted),
     }
 }
 
 fn name_finding(word: PlacedWord<'_>) -> Finding {
     match first_that(word.text, false, Sort::OfName) {
-        Some(at) => sign_finding(Cause::NAME_SIGN, word, at, Accepted::NAME),
+        Some(at) => sign_finding(Cause::NameSign, word, at, Accepted::Name),
         None if LONGEST_NAME < word.text.len() => {
-            Finding::on(Cause::LONG_NAME, word, Accepted::NAME)
+            Finding::on(Cause::LongName, word, Accepted::Name)
         }
-        None => Finding::in_word(Cause::NAME_BEGINS, word, 0, Accepted::NAME),
+        None => Finding::in_word(Cause::NameBegins, word, 0, Accepted::Name),
     }
 }
 
 // The byte at a place, unless a capital letter is what is wrong.
 fn sign_finding(cause: Cause, word: PlacedWord<'_>, at: usize, accepted: Accepted) -> Finding {
     match first_that(word.text, true, Sort::Capital) {
-        Some(capital) => Finding::in_word(Cause::CAPITAL_LETTER, word, capital, accepted),
+        Some(capital) => Finding::in_word(Cause::CapitalLetter, word, capital, accepted),
         None => Finding::in_word(cause, word, at, accepted),
     }
 }
@@ -134,8 +134,8 @@ fn sign_finding(cause: Cause, word: PlacedWord<'_>, at: usize, accepted: Accepte
 // Of a word that may be a number, and isn't said otherwise to be wrong.
 fn number_finding(word: PlacedWord<'_>, accepted: Accepted, other: Cause) -> Finding {
     match word.text {
-        [b'+', ..] => Finding::at(Cause::PLUS_SIGN, word.from, 1, accepted),
-        [b'-', ..] => Finding::at(Cause::MINUS_SIGN, word.from, 1, accepted),
+        [b'+', ..] => Finding::at(Cause::PlusSign, word.from, 1, accepted),
+        [b'-', ..] => Finding::at(Cause::MinusSign, word.from, 1, accepted),
         [b'0', rest @ ..] => zero_finding(word, rest, word.from, accepted),
         _ => plain(other, word, accepted),
     }
@@ -144,27 +144,27 @@ fn number_finding(word: PlacedWord<'_>, accepted: Accepted, other: Cause) -> Fin
 // A word that begins with a zero at a place, and goes on so.
 fn zero_finding(word: PlacedWord<'_>, rest: &[u8], zero: usize, accepted: Accepted) -> Finding {
     if first_that(rest, false, Sort::Digit).is_none() {
-        Finding::at(Cause::LEADING_ZERO, zero, 1, accepted)
+        Finding::at(Cause::LeadingZero, zero, 1, accepted)
     } else {
-        plain(Cause::NO_NUMBER, word, accepted)
+        plain(Cause::NoNumber, word, accepted)
     }
 }
 
 fn priority_finding(word: PlacedWord<'_>) -> Finding {
     match word.text {
-        [b'-', b'0'] => Finding::at(Cause::MINUS_ZERO, word.from, 2, Accepted::PRIORITY),
+        [b'-', b'0'] => Finding::at(Cause::MinusZero, word.from, 2, Accepted::Priority),
         [b'-', b'0', rest @ ..] => {
-            zero_finding(word, rest, word.from.saturating_add(1), Accepted::PRIORITY)
+            zero_finding(word, rest, word.from.saturating_add(1), Accepted::Priority)
         }
-        [b'-', ..] => plain(Cause::NO_NUMBER, word, Accepted::PRIORITY),
-        _ => number_finding(word, Accepted::PRIORITY, Cause::NO_NUMBER),
+        [b'-', ..] => plain(Cause::NoNumber, word, Accepted::Priority),
+        _ => number_finding(word, Accepted::Priority, Cause::NoNumber),
     }
 }
 
 fn hex_finding(word: PlacedWord<'_>) -> Finding {
     let accepted = Accepted::Message(None);
     match first_that(word.text, false, Sort::OfMessage) {
-        Some(at) => sign_finding(Cause::NO_DIGIT, word, at, accepted),
-        None => Finding::on(Cause::ODD_DIGITS, word, accepted),
+        Some(at) => sign_finding(Cause::NoDigit, word, at, accepted),
+        None => Finding::on(Cause::OddDigits, word, accepted),
     }
 }

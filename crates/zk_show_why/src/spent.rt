@@ -13,11 +13,11 @@ const LONGEST_RUN: usize = 16;
 
 /// Tells how many steps a player has made, and which calls it repeats.
 pub fn tell_spent(story: &mut Story, run: &Run<'_>, player: usize) {
-    story.say(Saying::of(Told::STEPS).number(run.steps(player) as u64));
+    story.say(Saying::of(Told::Steps).number(run.steps(player) as u64));
     if let Some(log) = run.log(player) {
         match period(&log.answers) {
-            Some(count) => tell_last(story, &log.answers, count, Told::REPEATS),
-            None => tell_last(story, &log.answers, LONGEST_RUN, Told::LAST_CALLS),
+            Some(count) => tell_last(story, &log.answers, count, Told::Repeats),
+            None => tell_last(story, &log.answers, LONGEST_RUN, Told::LastCalls),
         }
     }
     tell_last_run(story, run, player);
@@ -61,7 +61,7 @@ fn tell_last(story: &mut Story, answers: &Answers, count: usize, first: Told) {
             let mut saying = Saying::of(told);
             saying.call = word;
             story.say(saying);
-            told = Told::CALL_TOO;
+            told = Told::CallToo;
         }
     }
 }
@@ -77,7 +77,7 @@ fn tell_last_run(story: &mut Story, run: &Run<'_>, player: usize) {
     }
     if let Some(item) = last {
         if let Some(object) = run.scenario.items().get(item as usize) {
-            story.say(Saying::of(Told::RAN_LAST).object(Ref::Known(*object)));
+            story.say(Saying::of(Told::RanLast).object(Ref::Known(*object)));
         }
     }
 }

@@ -22,14 +22,14 @@ pub fn tell_time(story: &mut Story, run: &Run<'_>, open: &[usize]) {
         return;
     }
     let still = match tick_ahead(run, open) {
-        Some((player, place)) => Saying::of(Told::TICK_AHEAD).player(player).line(place),
-        None if until == open.len() || delayed.is_some() => Saying::of(Told::ONLY_TIME),
-        None => Saying::of(Told::TIME),
+        Some((player, place)) => Saying::of(Told::TickAhead).player(player).line(place),
+        None if until == open.len() || delayed.is_some() => Saying::of(Told::OnlyTime),
+        None => Saying::of(Told::Time),
     };
     story.say(still);
-    story.say(Saying::of(Told::IT_IS).number(time_of(run)));
+    story.say(Saying::of(Told::ItIs).number(time_of(run)));
     tell_deadlines(story, run, open, delayed);
-    story.say(Saying::of(Told::LINE_END));
+    story.say(Saying::of(Told::LineEnd));
 }
 
 // The time of the clock, in ticks.
@@ -81,16 +81,16 @@ fn tick_ahead(run: &Run<'_>, open: &[usize]) -> Option<(usize, Place)> {
 
 // Whose waits would end by ticks, and the first delay that would.
 fn tell_deadlines(story: &mut Story, run: &Run<'_>, open: &[usize], delayed: Option<u32>) {
-    let mut told = Told::TICKS_END_WAIT;
-    let mut told_delay = Told::TICKS_END_DELAY;
+    let mut told = Told::TicksEndWait;
+    let mut told_delay = Told::TicksEndDelay;
     for player in open {
         if has_deadline(run, *player) {
             story.say(Saying::of(told).player(*player));
             if let Some(moment) = moment_of(run, *player) {
-                story.say(Saying::of(Told::AT_TIME).number(moment));
+                story.say(Saying::of(Told::AtTime).number(moment));
             }
-            told = Told::TICKS_END_WAIT_TOO;
-            told_delay = Told::TICKS_END_DELAY_TOO;
+            told = Told::TicksEndWaitToo;
+            told_delay = Told::TicksEndDelayToo;
         }
     }
     if let Some(item) = delayed {
