@@ -3,6 +3,7 @@ pub mod Made
 pub mod Joined
 pub mod Rows
 pub mod Counted
+pub mod Told
 pub mod Headed
 pub mod Sections
 pub mod Each

@@ -73,15 +73,15 @@ module _ {L : Type 0} where
     }
 
     -- what stands behind a head is one line farther on
-    pub headed_there : (head : L) (stands : X → Bool) (lines_of : X → List L) (x : X) (place : ℕ) (line : L) → stands x ≡ true →
+    pub headed_there : (head : X → L) (stands : X → Bool) (lines_of : X → List L) (x : X) (place : ℕ) (line : L) → stands x ≡ true →
         StandsAt (lines_of x) place line → StandsAt (headed_lines head stands lines_of x) (1 + place) line
     headed_there head stands lines_of x place line is there =
-        subst (λ ls. StandsAt ls (1 + place) line) (sym (cond-true (stands x) (head ∷ lines_of x) [] is)) (behind (head ∷ []) (lines_of x) place line there)
+        subst (λ ls. StandsAt ls (1 + place) line) (sym (cond-true (stands x) (head x ∷ lines_of x) [] is)) (behind (head x ∷ []) (lines_of x) place line there)
 
     -- a row under a title stands one line farther on
-    pub titled_there : {S : Type 0} (title : S → L) (text : X → L) (s : S) (xs : List X) (place : ℕ) (x : X) → StandsAt xs place x →
+    pub titled_there : {S : Type 0} (title : S → ℕ → L) (text : X → L) (s : S) (xs : List X) (place : ℕ) (x : X) → StandsAt xs place x →
         StandsAt (titled_lines title text (s, xs)) (1 + place) (text x)
-    titled_there title text s xs place x there = behind (title s ∷ []) (map text xs) place (text x) (row_there text xs place x there)
+    titled_there title text s xs place x there = behind (title s (length xs) ∷ []) (map text xs) place (text x) (row_there text xs place x there)
 
   module _ {E K : Type 0} (first : E → L) (second : K → L) where
     -- of rows of two kinds a first one stands in its place

@@ -42,6 +42,20 @@ abbrev pub line_of : {L A : Type 0} → (L → Option A) → List L → Reading 
 line_of says [] = (None, [])
 line_of says (line ∷ lines) = said (says line) line lines
 
+-- what a line tells of is read behind it, where it tells of something
+abbrev pub told_by : {H L A : Type 0} → (H → List L → Reading L A) → Option H → L → List L → Reading L A
+told_by read None line lines = (None, line ∷ lines)
+told_by read (Some h) line lines = read h lines
+
+-- a line, and what it tells of
+abbrev pub told_of : {H L A : Type 0} → (L → Option H) → (H → List L → Reading L A) → List L → Reading L A
+told_of head_of read [] = (None, [])
+told_of head_of read (line ∷ lines) = told_by read (head_of line) line lines
+
+-- its lines
+abbrev pub told_lines : {L A : Type 0} → (A → L) → (A → List L) → A → List L
+told_lines head lines_of a = head a ∷ lines_of a
+
 -- what was read before this
 abbrev pub beside : {L A B : Type 0} → A → Reading L B → Reading L (A × B)
 beside a (None, left) = (None, left)

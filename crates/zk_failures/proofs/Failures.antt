@@ -1,5 +1,4 @@
 -- A trace with a failure isn't lawful.
-use Rattle.std.proofs.Common.{◌≡◌, ℕ}
 use Rattle.zk_scenario.specs.Content.{Content}
 use Rattle.zk_trace.specs.declared.trace.Trace.{Trace}
 use Rattle.zk_trace.specs.Form.{IsInForm}

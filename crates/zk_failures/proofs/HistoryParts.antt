@@ -73,30 +73,30 @@ module _ (m : Machines) (t : Trace) where
   table-none : Replays m.table m.table_start t.table → NoneUnlike Bad (entries_stood homes.Table 0 t.table)
   table-none stands = history-none Bad m.table homes.Table m.table_start t.table (λ k bad. bad) (λ k bad. bad) stands
 
-  looks-none : NoneUnlike Bad (map item_look_stood t.item_looks)
-  looks-none = item_looks-none Bad (λ item flags at bad. bad) t.item_looks
+  looks-none : NoneUnlike Bad (map item_look_stood t.looks.items)
+  looks-none = item_looks-none Bad (λ item flags at bad. bad) t.looks.items
 
   single-none : SinglesStand m t → NoneUnlike Bad (single_lines t)
   single-none stand =
       none-append Bad (entries_stood homes.Work 0 t.work) _ (work-none stand.0)
-      (none-append Bad (map item_look_stood t.item_looks) _ looks-none
+      (none-append Bad (map item_look_stood t.looks.items) _ looks-none
       (none-append Bad (entries_stood homes.Clock 0 t.clock) (entries_stood homes.Table 0 t.table) (clock-none stand.1) (table-none stand.2)))
 
   pub work-first : (row : ℕ) → IsFirst (IsUnlike m.work m.work_start t.work) row → IsFoundAt Bad (single_lines t) row
   work-first row first =
       found-front Bad (entries_stood homes.Work 0 t.work) _ row (history-found Bad m.work homes.Work m.work_start t.work (λ k bad. bad) (λ k bad. bad) row first)
 
-  behind-work : (lines : List Stood) (row place : ℕ) → Replays m.work m.work_start t.work → row ≡ length t.work + length t.item_looks + place → IsFoundAt Bad lines place →
-      IsFoundAt Bad (entries_stood homes.Work 0 t.work ++ (map item_look_stood t.item_looks ++ lines)) row
+  behind-work : (lines : List Stood) (row place : ℕ) → Replays m.work m.work_start t.work → row ≡ length t.work + length t.looks.items + place → IsFoundAt Bad lines place →
+      IsFoundAt Bad (entries_stood homes.Work 0 t.work ++ (map item_look_stood t.looks.items ++ lines)) row
   behind-work lines row place stands is found =
       let work = entries_stood homes.Work 0 t.work in
-      let looks = map item_look_stood t.item_looks in
+      let looks = map item_look_stood t.looks.items in
       let long = entries-long homes.Work 0 t.work in
-      let looked = length-map t.item_looks item_look_stood in
+      let looked = length-map t.looks.items item_look_stood in
       subst (λ (n : ℕ). IsFoundAt Bad (work ++ (looks ++ lines)) n) (omega arith)
       (found-behind Bad work (looks ++ lines) (length looks + place) (work-none stands) (found-behind Bad looks lines place looks-none found))
 
-  pub clock-first : (row place : ℕ) → Replays m.work m.work_start t.work → row ≡ length t.work + length t.item_looks + place →
+  pub clock-first : (row place : ℕ) → Replays m.work m.work_start t.work → row ≡ length t.work + length t.looks.items + place →
       IsFirst (IsUnlike m.clock m.clock_start t.clock) place → IsFoundAt Bad (single_lines t) row
   clock-first row place stands is first =
       behind-work (entries_stood homes.Clock 0 t.clock ++ entries_stood homes.Table 0 t.table) row place stands is
@@ -104,7 +104,7 @@ module _ (m : Machines) (t : Trace) where
       (history-found Bad m.clock homes.Clock m.clock_start t.clock (λ k bad. bad) (λ k bad. bad) place first))
 
   pub table-first : (row place : ℕ) → Replays m.work m.work_start t.work → Replays m.clock m.clock_start t.clock →
-      row ≡ length t.work + length t.item_looks + length t.clock + place → IsFirst (IsUnlike m.table m.table_start t.table) place → IsFoundAt Bad (single_lines t) row
+      row ≡ length t.work + length t.looks.items + length t.clock + place → IsFirst (IsUnlike m.table m.table_start t.table) place → IsFoundAt Bad (single_lines t) row
   table-first row place stands ticks is first =
       let clock = entries_stood homes.Clock 0 t.clock in
       let table = entries_stood homes.Table 0 t.table in
@@ -121,15 +121,15 @@ module _ (m : Machines) (t : Trace) where
   msgqs-none : EachStands m.msgqs t.msgqs → NoneUnlike Bad (histories_stood families.Msgq 0 t.msgqs)
   msgqs-none stand = kind-none Bad no_look m.msgqs families.Msgq t.msgqs (λ k place bad. bad) (λ k place bad. bad) stand
 
-  signals-none : EachStands m.signals t.signals → NoneUnlike Bad (signals_stood t.signal_looks 0 t.signals)
+  signals-none : EachStands m.signals t.signals → NoneUnlike Bad (signals_stood t.looks.signals 0 t.signals)
   signals-none stand =
-      subst (NoneUnlike Bad) (signals-objects t.signal_looks 0 t.signals)
-      (looked-none Bad no_look m.signals families.Signal t.signals (λ k place bad. bad) (λ k place bad. bad) t.signal_looks stand)
+      subst (NoneUnlike Bad) (signals-objects t.looks.signals 0 t.signals)
+      (looked-none Bad no_look m.signals families.Signal t.signals (λ k place bad. bad) (λ k place bad. bad) t.looks.signals stand)
 
   waited-none : WaitedStand m t → NoneUnlike Bad (waited_lines t)
   waited-none stand =
       none-append Bad (histories_stood families.Sem 0 t.sems) _ (sems-none stand.0)
-      (none-append Bad (histories_stood families.Msgq 0 t.msgqs) (signals_stood t.signal_looks 0 t.signals) (msgqs-none stand.1) (signals-none stand.2))
+      (none-append Bad (histories_stood families.Msgq 0 t.msgqs) (signals_stood t.looks.signals 0 t.signals) (msgqs-none stand.1) (signals-none stand.2))
 
   pub sems-first : (row : ℕ) → FirstAmong m.sems.machine [] 0 m.sems.starts t.sems (Some row) → IsFoundAt Bad (waited_lines t) row
   sems-first row first =
@@ -145,20 +145,20 @@ module _ (m : Machines) (t : Trace) where
   pub msgqs-first : (row place : ℕ) → EachStands m.sems t.sems → row ≡ line_count [] 0 t.sems + place → FirstAmong m.msgqs.machine [] 0 m.msgqs.starts t.msgqs (Some place) →
       IsFoundAt Bad (waited_lines t) row
   msgqs-first row place stand is first =
-      behind-sems (histories_stood families.Msgq 0 t.msgqs ++ signals_stood t.signal_looks 0 t.signals) row place stand is
-      (found-front Bad (histories_stood families.Msgq 0 t.msgqs) (signals_stood t.signal_looks 0 t.signals) place
+      behind-sems (histories_stood families.Msgq 0 t.msgqs ++ signals_stood t.looks.signals 0 t.signals) row place stand is
+      (found-front Bad (histories_stood families.Msgq 0 t.msgqs) (signals_stood t.looks.signals 0 t.signals) place
       (kind-found Bad no_look m.msgqs families.Msgq t.msgqs (λ k place bad. bad) (λ k place bad. bad) place first))
 
   pub signals-first : (row place : ℕ) → EachStands m.sems t.sems → EachStands m.msgqs t.msgqs → row ≡ line_count [] 0 t.sems + line_count [] 0 t.msgqs + place →
-      FirstAmong m.signals.machine t.signal_looks 0 m.signals.starts t.signals (Some place) → IsFoundAt Bad (waited_lines t) row
+      FirstAmong m.signals.machine t.looks.signals 0 m.signals.starts t.signals (Some place) → IsFoundAt Bad (waited_lines t) row
   signals-first row place stand held is first =
       let msgqs = histories_stood families.Msgq 0 t.msgqs in
-      let signals = signals_stood t.signal_looks 0 t.signals in
+      let signals = signals_stood t.looks.signals 0 t.signals in
       let long = length-histories families.Msgq t.msgqs in
       behind-sems (msgqs ++ signals) row (length msgqs + place) stand (omega arith)
       (found-behind Bad msgqs signals place (msgqs-none held)
-      (subst (λ (lines : List Stood). IsFoundAt Bad lines place) (signals-objects t.signal_looks 0 t.signals)
-      (looked-found Bad no_look m.signals families.Signal t.signals (λ k place bad. bad) (λ k place bad. bad) t.signal_looks place first)))
+      (subst (λ (lines : List Stood). IsFoundAt Bad lines place) (signals-objects t.looks.signals 0 t.signals)
+      (looked-found Bad no_look m.signals families.Signal t.signals (λ k place bad. bad) (λ k place bad. bad) t.looks.signals place first)))
 
   -- The bus.
 

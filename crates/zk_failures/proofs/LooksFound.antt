@@ -76,28 +76,28 @@ module _ (t : Trace) where
   entry-else looks line (spots.LookItem item flags at) number step is = absurd (none-some (number, step) is)
   entry-else looks line (spots.LookSignal object seen) number step is = absurd (none-some (number, step) is)
 
-  item-lines : AllByRecursion (λ l. IsItemLine t.item_looks l l.spot) (stood t)
+  item-lines : AllByRecursion (λ l. IsItemLine t.looks.items l l.spot) (stood t)
   item-lines =
-      stood-each t (λ l. IsItemLine t.item_looks l l.spot) (λ spot number step is. entry-else t.item_looks (line_at number step spot) spot number step is)
-      (each-from (λ (l : ItemLook). IsItemLine t.item_looks (item_look_stood l) (item_look_stood l).spot) t.item_looks (λ l is. (l, is, refl)))
-      (λ o within. each-of (λ (l : SignalLook). IsItemLine t.item_looks (signal_look_stood o l) (signal_look_stood o l).spot) (λ l. tt) (looks_at t.signal_looks o))
+      stood-each t (λ l. IsItemLine t.looks.items l l.spot) (λ spot number step is. entry-else t.looks.items (line_at number step spot) spot number step is)
+      (each-from (λ (l : ItemLook). IsItemLine t.looks.items (item_look_stood l) (item_look_stood l).spot) t.looks.items (λ l is. (l, is, refl)))
+      (λ o within. each-of (λ (l : SignalLook). IsItemLine t.looks.items (signal_look_stood o l) (signal_look_stood o l).spot) (λ l. tt) (looks_at t.looks.signals o))
 
   -- the look of a place has the line that many behind the entries of work
-  pub item-row : (k : ℕ) (look : ItemLook) → slice_get t.item_looks k ≡ Some look → slice_get (stood t) (length t.work + k) ≡ Some (item_look_stood look)
+  pub item-row : (k : ℕ) (look : ItemLook) → slice_get t.looks.items k ≡ Some look → slice_get (stood t) (length t.work + k) ≡ Some (item_look_stood look)
   item-row k look there =
       let line = item_look_stood look in
       let place = length t.work + k in
       let front : slice_get (works t ++ items t) place ≡ Some line =
       ap (λ (n : ℕ). slice_get (works t ++ items t) (n + k)) (sym (entries-long homes.Work 0 t.work))
-      ∙ behind-at (works t) (items t) k ∙ slice_get-map item_look_stood t.item_looks k ∙ ap (option_map item_look_stood) there in
+      ∙ behind-at (works t) (items t) k ∙ slice_get-map item_look_stood t.looks.items k ∙ ap (option_map item_look_stood) there in
       there-longer (upto_chans t) (observers t) place line (there-longer (upto_signals t) (chans t) place line (there-longer (upto_msgqs t) (signals t) place line
       (there-longer (upto_sems t) (msgqs t) place line (there-longer (upto_tables t) (sems t) place line (there-longer (upto_clocks t) (tables t) place line
       (there-longer (upto_items t) (clocks t) place line front))))))
 
   -- and a line of a look at an item is that of one
-  pub row-item : (line : Stood) (item flags at : ℕ) → IsRow t line → line.spot ≡ spots.LookItem item flags at → (k : ℕ) × (look : ItemLook) × (slice_get t.item_looks k ≡ Some look) × (line ≡ item_look_stood look)
+  pub row-item : (line : Stood) (item flags at : ℕ) → IsRow t line → line.spot ≡ spots.LookItem item flags at → (k : ℕ) × (look : ItemLook) × (slice_get t.looks.items k ≡ Some look) × (line ≡ item_look_stood look)
   row-item line item flags at is spot =
-      let found = subst (IsItemLine t.item_looks line) spot (each-in (λ l. IsItemLine t.item_looks l l.spot) (stood t) line item-lines is) in
+      let found = subst (IsItemLine t.looks.items line) spot (each-in (λ l. IsItemLine t.looks.items l l.spot) (stood t) line item-lines is) in
       (found.1.0, found.0, found.1.1, found.2)
 
 -- where the steps are numbered, two lines of one step are one
@@ -116,9 +116,9 @@ one-place s t form placed i j x y at_x at_y player step = by (cases_order i j) w
 
 module _ (s : Content) (t : Trace) (form : IsInForm s t) (placed : IsPlaced s t) where
   -- a look at an item is at one
-  item-is : (k : ℕ) (look : ItemLook) → slice_get t.item_looks k ≡ Some look → IsOf is_item s.decls look.item
+  item-is : (k : ℕ) (look : ItemLook) → slice_get t.looks.items k ≡ Some look → IsOf is_item s.decls look.item
   item-is k look there =
-      (each-in (IsItemLook s.decls) t.item_looks look (fits-each (FitsItemLook s.decls) (IsItemLook s.decls) (λ last l fits. fits.1) None t.item_looks form.item_looks) (k, there)).item
+      (each-in (IsItemLook s.decls) t.looks.items look (fits-each (FitsItemLook s.decls) (IsItemLook s.decls) (λ last l fits. fits.1) None t.looks.items form.item_looks) (k, there)).item
 
   abbrev pub missed_row : Option ℕ → Option ℕ
   missed_row first = option_map (λ place. length t.work + place) first
@@ -132,8 +132,8 @@ module _ (s : Content) (t : Trace) (form : IsInForm s t) (placed : IsPlaced s t)
 
   -- where the lines below a place are held each look at an item there found what was there
   held-found : (first : Option ℕ) → FirstMissed s t first → (n : ℕ) → ((place : ℕ) (line : Stood) → place < n → slice_get (stood t) place ≡ Some line → Held first place line) →
-      (k : ℕ) (look : ItemLook) → length t.work + k < n → slice_get t.item_looks k ≡ Some look → is_found s t look ≡ true
-  held-found None all n held k look below there = All-at (λ (look : ItemLook). is_found s t look ≡ true) t.item_looks k look all there
+      (k : ℕ) (look : ItemLook) → length t.work + k < n → slice_get t.looks.items k ≡ Some look → is_found s t look ≡ true
+  held-found None all n held k look below there = All-at (λ (look : ItemLook). is_found s t look ≡ true) t.looks.items k look all there
   held-found (Some first) is n held k look below there = by (cases_order k first) where
     by : ((k ≡ first) ⊎ ((k < first) ⊎ (first < k))) → is_found s t look ≡ true
     by (inl same) = absurd (missed-unheld first k (sym same) (item_look_stood look) (held (length t.work + k) (item_look_stood look) below (item-row t k look there)))
@@ -243,8 +243,8 @@ module _ (s : Content) (t : Trace) (form : IsInForm s t) (placed : IsPlaced s t)
   lines-within : AreShort (trace_shown t) → AllByRecursion (λ l. IsWithin (length t.signals) l.spot) (stood t)
   lines-within short =
       stood-each t (λ l. IsWithin (length t.signals) l.spot) (shown-within short)
-      (each-of (λ (l : ItemLook). IsWithin (length t.signals) (item_look_stood l).spot) (λ l. tt) t.item_looks)
-      (λ o within. each-of (λ (l : SignalLook). IsWithin (length t.signals) (signal_look_stood o l).spot) (λ l. within) (looks_at t.signal_looks o))
+      (each-of (λ (l : ItemLook). IsWithin (length t.signals) (item_look_stood l).spot) (λ l. tt) t.looks.items)
+      (λ o within. each-of (λ (l : SignalLook). IsWithin (length t.signals) (signal_look_stood o l).spot) (λ l. within) (looks_at t.looks.signals o))
 
   pub steps-within : AreShort (trace_shown t) → All (λ log. All (IsWithin (length t.signals)) log.steps) t.logs
   steps-within short = λ n d within k e below.

@@ -142,7 +142,7 @@ placed-short s t valid form placed =
       table = entries-short n homes.Table t.table table.1;
       sems = histories-short n families.Sem 0 t.sems sem.1;
       msgqs = histories-short n families.Msgq 0 t.msgqs msgq.1;
-      signals = signals-short n t.signal_looks 0 t.signals signal.1;
+      signals = signals-short n t.looks.signals 0 t.signals signal.1;
       chans = histories-short n families.Chan 0 t.chans chan.1;
       observers = histories-short n families.Obs 0 t.observers observer.1;
     }

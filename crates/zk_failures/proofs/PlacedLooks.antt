@@ -323,25 +323,25 @@ abbrev pub ItemNotBelow : ItemLook → ItemLook → Type 0
 ItemNotBelow = NotBelow item_look_at item_look_stood item-told
 
 -- those of a trace in form don't fall
-pub items-later : (s : Content) (t : Trace) → IsInForm s t → Later ItemNotBelow t.item_looks
+pub items-later : (s : Content) (t : Trace) → IsInForm s t → Later ItemNotBelow t.looks.items
 items-later s t form =
-    later-looks item_look_at item_look_stood item-told None t.item_looks
-    (rows-stand (FitsItemLook s.decls) (StandsBehind item_look_at item_look_stood item-told) (λ last l fits. stands last l fits.0) None t.item_looks form.item_looks)
+    later-looks item_look_at item_look_stood item-told None t.looks.items
+    (rows-stand (FitsItemLook s.decls) (StandsBehind item_look_at item_look_stood item-told) (λ last l fits. stands last l fits.0) None t.looks.items form.item_looks)
   where
     stands : (last : Option ItemLook) (l : ItemLook) → item_may_stand last l ≡ true → StandsBehind item_look_at item_look_stood item-told last l
     stands None l is = is
     stands (Some x) l is = is
 
 -- they are those of the logs
-pub item-looks-same : (s : Content) (t : Trace) → IsInForm s t → AreNumbered t → t.item_looks ≡ item_looks_of t.logs
+pub item-looks-same : (s : Content) (t : Trace) → IsInForm s t → AreNumbered t → t.looks.items ≡ item_looks_of t.logs
 item-looks-same s t form numbers =
     let whole : filter keeps_item (stood t) ≡ items t =
     keep-items keeps_item no-item t
-    (signals-each (λ l. keeps_item l ≡ false) t.signal_looks 0 t.signals (λ o p e there. refl)
-    (λ o within. each-of (λ (l : SignalLook). keeps_item (signal_look_stood (0 + o) l) ≡ false) (λ l. refl) (looks_at t.signal_looks (0 + o))))
+    (signals-each (λ l. keeps_item l ≡ false) t.looks.signals 0 t.signals (λ o p e there. refl)
+    (λ o within. each-of (λ (l : SignalLook). keeps_item (signal_look_stood (0 + o) l) ≡ false) (λ l. refl) (looks_at t.looks.signals (0 + o))))
     ∙ filter_all keeps_item (items t) (All-from_recursion (λ (l : Stood). keeps_item l ≡ true) (items t)
-    (mapped-each (λ l. keeps_item l ≡ true) item_look_stood t.item_looks (each-of (λ (l : ItemLook). keeps_item (item_look_stood l) ≡ true) (λ l. refl) t.item_looks))) in
-    sym (looks-same item_look_at item_look_stood item-told s t form numbers t.item_looks whole (items-later s t form))
+    (mapped-each (λ l. keeps_item l ≡ true) item_look_stood t.looks.items (each-of (λ (l : ItemLook). keeps_item (item_look_stood l) ≡ true) (λ l. refl) t.looks.items))) in
+    sym (looks-same item_look_at item_look_stood item-told s t form numbers t.looks.items whole (items-later s t form))
 
 -- Looks at signals.
 
@@ -372,8 +372,8 @@ module _ (object : ℕ) where
   LookNotBelow = NotBelow (signal_look_at object) (signal_look_stood object) signal-told
 
   -- nor do these
-  pub signal-later : (s : Content) (t : Trace) → IsInForm s t → Later LookNotBelow (looks_at t.signal_looks object)
-  signal-later s t form = by (slice_get t.signal_looks object) refl where
+  pub signal-later : (s : Content) (t : Trace) → IsInForm s t → Later LookNotBelow (looks_at t.looks.signals object)
+  signal-later s t form = by (slice_get t.looks.signals object) refl where
     stands : (last : Option SignalLook) (l : SignalLook) → signal_may_stand last l ≡ true → StandsBehind (signal_look_at object) (signal_look_stood object) signal-told last l
     stands None l is = is
     stands (Some x) l is = is
@@ -384,26 +384,26 @@ module _ (object : ℕ) where
         later-looks (signal_look_at object) (signal_look_stood object) signal-told None ls
         (rows-stand (FitsSignalLook s.decls) (StandsBehind (signal_look_at object) (signal_look_stood object) signal-told) (λ last l fits. stands last l fits.0) None ls fit)
 
-    by : (o : Option (List SignalLook)) → slice_get t.signal_looks object ≡ o → Later LookNotBelow (looks_at t.signal_looks object)
+    by : (o : Option (List SignalLook)) → slice_get t.looks.signals object ≡ o → Later LookNotBelow (looks_at t.looks.signals object)
     by None is = subst (λ (o : Option (List SignalLook)). Later LookNotBelow (option_map_or (λ x. x) o [])) (sym is) tt
     by (Some ls) is =
-        subst (Later LookNotBelow) (sym (looks-there t.signal_looks object ls is))
-        (each ls (kind-at is_signal (AllFit (FitsSignalLook s.decls) None) s.decls t.signal_looks form.signal_looks object ls is))
+        subst (Later LookNotBelow) (sym (looks-there t.looks.signals object ls is))
+        (each ls (kind-at is_signal (AllFit (FitsSignalLook s.decls) None) s.decls t.looks.signals form.signal_looks object ls is))
 
-  signal-same : (s : Content) (t : Trace) → IsInForm s t → AreNumbered t → object < length t.signals → all_looks (signal_look_at object) 0 t.logs ≡ looks_at t.signal_looks object
+  signal-same : (s : Content) (t : Trace) → IsInForm s t → AreNumbered t → object < length t.signals → all_looks (signal_look_at object) 0 t.logs ≡ looks_at t.looks.signals object
   signal-same s t form numbers within =
-      let whole : filter keeps_look (stood t) ≡ map (signal_look_stood object) (looks_at t.signal_looks object) =
-      keep-signals keeps_look no-look t (mapped-each (λ l. keeps_look l ≡ false) item_look_stood t.item_looks (each-of (λ (l : ItemLook). keeps_look (item_look_stood l) ≡ false) (λ l. refl) t.item_looks))
-      ∙ kept keeps_look no-look object own-look t.signal_looks 0 t.signals object (omega arith) within in
-      looks-same (signal_look_at object) (signal_look_stood object) signal-told s t form numbers (looks_at t.signal_looks object) whole (signal-later s t form)
+      let whole : filter keeps_look (stood t) ≡ map (signal_look_stood object) (looks_at t.looks.signals object) =
+      keep-signals keeps_look no-look t (mapped-each (λ l. keeps_look l ≡ false) item_look_stood t.looks.items (each-of (λ (l : ItemLook). keeps_look (item_look_stood l) ≡ false) (λ l. refl) t.looks.items))
+      ∙ kept keeps_look no-look object own-look t.looks.signals 0 t.signals object (omega arith) within in
+      looks-same (signal_look_at object) (signal_look_stood object) signal-told s t form numbers (looks_at t.looks.signals object) whole (signal-later s t form)
 
 -- of each they are those of the logs
-pub signal-looks-same : (s : Content) (t : Trace) → IsInForm s t → AreNumbered t → t.signal_looks ≡ signal_looks_of (length t.signals) t.logs
+pub signal-looks-same : (s : Content) (t : Trace) → IsInForm s t → AreNumbered t → t.looks.signals ≡ signal_looks_of (length t.signals) t.logs
 signal-looks-same s t form numbers =
-    let looks = each_fits-length (λ d. FitsGiven (is_signal d) [] (AllFit (FitsSignalLook s.decls) None)) s.decls t.signal_looks form.signal_looks in
+    let looks = each_fits-length (λ d. FitsGiven (is_signal d) [] (AllFit (FitsSignalLook s.decls) None)) s.decls t.looks.signals form.signal_looks in
     let writes = each_fits-length (λ d. FitsGiven (is_signal d) [] (AllByRecursion (IsSignal s.decls))) s.decls t.signals form.signals in
-    let each : (object : ℕ) → object < length t.signals → get_or t.signal_looks object [] ≡ all_looks (signal_look_at object) 0 t.logs =
+    let each : (object : ℕ) → object < length t.signals → get_or t.looks.signals object [] ≡ all_looks (signal_look_at object) 0 t.logs =
     λ object below.
-    let there = slice_get-get_or t.signal_looks object [] (omega arith) in
-    sym (looks-there t.signal_looks object (get_or t.signal_looks object []) there) ∙ sym (signal-same object s t form numbers below) in
-    fill_by_all (λ object. all_looks (signal_look_at object) 0 t.logs) t.signal_looks (length t.signals) [] (omega arith) each
+    let there = slice_get-get_or t.looks.signals object [] (omega arith) in
+    sym (looks-there t.looks.signals object (get_or t.looks.signals object []) there) ∙ sym (signal-same object s t form numbers below) in
+    fill_by_all (λ object. all_looks (signal_look_at object) 0 t.logs) t.looks.signals (length t.signals) [] (omega arith) each

@@ -235,7 +235,7 @@ rises-of-rows t rise =
       table = rises-of-lines homes.Table 0 t.table (later-back Rising (upto_clocks t) (tables t) table);
       sems = rises-of-histories families.Sem 0 t.sems (later-back Rising (upto_tables t) (sems t) sem);
       msgqs = rises-of-histories families.Msgq 0 t.msgqs (later-back Rising (upto_sems t) (msgqs t) msgq);
-      signals = rises-of-signals t.signal_looks 0 t.signals (later-back Rising (upto_msgqs t) (signals t) signal);
+      signals = rises-of-signals t.looks.signals 0 t.signals (later-back Rising (upto_msgqs t) (signals t) signal);
       chans = rises-of-histories families.Chan 0 t.chans (later-back Rising (upto_signals t) (chans t) chan);
       observers = rises-of-histories families.Obs 0 t.observers (later-back Rising (upto_chans t) (observers t) rise);
     }
@@ -286,16 +286,16 @@ module _ (s : Content) (t : Trace) (form : IsInForm s t) (numbers : AreNumbered 
   items-rise =
       let upto = later-front Distinct (upto_items t) (clocks t) (later-front Distinct (upto_clocks t) (tables t) (later-front Distinct (upto_tables t) (sems t)
       (later-front Distinct (upto_sems t) (msgqs t) (later-front Distinct (upto_msgqs t) (signals t) (later-front Distinct (upto_signals t) (chans t) (later-front Distinct (upto_chans t) (observers t) distinct-rows)))))) in
-      let distinct = later-unmap Distinct item_look_stood t.item_looks (later-back Distinct (works t) (items t) upto) in
-      later-map Rising item_look_stood t.item_looks
+      let distinct = later-unmap Distinct item_look_stood t.looks.items (later-back Distinct (works t) (items t) upto) in
+      later-map Rising item_look_stood t.looks.items
       (later-both ItemNotBelow (λ x y. Distinct (item_look_stood x) (item_look_stood y)) (λ x y. Rising (item_look_stood x) (item_look_stood y))
-      (λ x y stands apart. rise-distinct (item_look_stood x) (item_look_stood y) (stand-steps x.player x.step y.player y.step stands).1 apart) t.item_looks (items-later s t form) distinct)
+      (λ x y stands apart. rise-distinct (item_look_stood x) (item_look_stood y) (stand-steps x.player x.step y.player y.step stands).1 apart) t.looks.items (items-later s t form) distinct)
 
-  looks-rise : (object : ℕ) → object < length t.signals → Later Rising (map (signal_look_stood object) (looks_at t.signal_looks object))
+  looks-rise : (object : ℕ) → object < length t.signals → Later Rising (map (signal_look_stood object) (looks_at t.looks.signals object))
   looks-rise object within =
-      let ls = looks_at t.signal_looks object in
+      let ls = looks_at t.looks.signals object in
       let all = later-back Distinct (upto_msgqs t) (signals t) (later-front Distinct (upto_signals t) (chans t) (later-front Distinct (upto_chans t) (observers t) distinct-rows)) in
-      let distinct = later-unmap Distinct (signal_look_stood object) ls (later-looks-at Distinct t.signal_looks 0 t.signals object object (omega arith) within all) in
+      let distinct = later-unmap Distinct (signal_look_stood object) ls (later-looks-at Distinct t.looks.signals 0 t.signals object object (omega arith) within all) in
       later-map Rising (signal_look_stood object) ls
       (later-both (LookNotBelow object) (λ x y. Distinct (signal_look_stood object x) (signal_look_stood object y)) (λ x y. Rising (signal_look_stood object x) (signal_look_stood object y))
       (λ x y stands apart. rise-distinct (signal_look_stood object x) (signal_look_stood object y) (stand-steps x.player x.step y.player y.step stands).1 apart) ls (signal-later object s t form) distinct)
@@ -304,9 +304,9 @@ module _ (s : Content) (t : Trace) (form : IsInForm s t) (numbers : AreNumbered 
   pub rows-of-rises : EachRises t → Later Rising (stood t)
   rows-of-rises rise =
       let signal_part : AllByRecursion (InPart 6) (signals t) =
-      signals-each (InPart 6) t.signal_looks 0 t.signals (λ o p e there. refl)
-      (λ o within. each-of (λ (l : SignalLook). InPart 6 (signal_look_stood (0 + o) l)) (λ l. refl) (looks_at t.signal_looks (0 + o))) in
-      let item_part : AllByRecursion (InPart 1) (items t) = mapped-each (InPart 1) item_look_stood t.item_looks (each-of (λ (l : ItemLook). InPart 1 (item_look_stood l)) (λ l. refl) t.item_looks) in
+      signals-each (InPart 6) t.looks.signals 0 t.signals (λ o p e there. refl)
+      (λ o within. each-of (λ (l : SignalLook). InPart 6 (signal_look_stood (0 + o) l)) (λ l. refl) (looks_at t.looks.signals (0 + o))) in
+      let item_part : AllByRecursion (InPart 1) (items t) = mapped-each (InPart 1) item_look_stood t.looks.items (each-of (λ (l : ItemLook). InPart 1 (item_look_stood l)) (λ l. refl) t.looks.items) in
       let work : RiseUpTo 0 (works t) = (
         each-weaker (InPart 0) (IsUpTo 0) (λ l is. omega arith) (works t) (entries-part homes.Work t.work),
         lines-of-rises homes.Work 0 t.work rise.work,
@@ -316,7 +316,7 @@ module _ (s : Content) (t : Trace) (form : IsInForm s t) (numbers : AreNumbered 
       let table = more-parts 2 (upto_clocks t) (tables t) clock (entries-part homes.Table t.table) (lines-of-rises homes.Table 0 t.table rise.table) in
       let sem = more-parts 3 (upto_tables t) (sems t) table (family-part families.Sem 4 t.sems (λ o p. refl)) (histories-of-rises families.Sem 0 t.sems rise.sems) in
       let msgq = more-parts 4 (upto_sems t) (msgqs t) sem (family-part families.Msgq 5 t.msgqs (λ o p. refl)) (histories-of-rises families.Msgq 0 t.msgqs rise.msgqs) in
-      let signal = more-parts 5 (upto_msgqs t) (signals t) msgq signal_part (signals-of-rises t.signal_looks 0 t.signals rise.signals
+      let signal = more-parts 5 (upto_msgqs t) (signals t) msgq signal_part (signals-of-rises t.looks.signals 0 t.signals rise.signals
       (λ o object is within. let same : o ≡ object = omega arith in looks-rise object (subst (λ (n : ℕ). n < length t.signals) same within))) in
       let chan = more-parts 6 (upto_signals t) (chans t) signal (family-part families.Chan 7 t.chans (λ o p. refl)) (histories-of-rises families.Chan 0 t.chans rise.chans) in
       (more-parts 7 (upto_chans t) (observers t) chan (family-part families.Obs 8 t.observers (λ o p. refl)) (histories-of-rises families.Obs 0 t.observers rise.observers)).1

@@ -94,7 +94,7 @@ module _ (t : Trace) where
   works = entries_stood homes.Work 0 t.work
 
   abbrev pub items : List Stood
-  items = map item_look_stood t.item_looks
+  items = map item_look_stood t.looks.items
 
   abbrev pub clocks : List Stood
   clocks = entries_stood homes.Clock 0 t.clock
@@ -109,7 +109,7 @@ module _ (t : Trace) where
   msgqs = histories_stood families.Msgq 0 t.msgqs
 
   abbrev pub signals : List Stood
-  signals = signals_stood t.signal_looks 0 t.signals
+  signals = signals_stood t.looks.signals 0 t.signals
 
   abbrev pub chans : List Stood
   chans = histories_stood families.Chan 0 t.chans
@@ -161,14 +161,14 @@ module _ (t : Trace) where
     within_items is = within_clocks (in-front upto_items clocks line is)
 
   -- a look at an item has its line
-  pub row-of-item : (l : ItemLook) → IsIn t.item_looks l → IsIn (stood t) (item_look_stood l)
-  row-of-item l is = within_items (item_look_stood l) (in-back works items (item_look_stood l) (in-map item_look_stood t.item_looks l is))
+  pub row-of-item : (l : ItemLook) → IsIn t.looks.items l → IsIn (stood t) (item_look_stood l)
+  row-of-item l is = within_items (item_look_stood l) (in-back works items (item_look_stood l) (in-map item_look_stood t.looks.items l is))
 
   -- a look at a signal has its line
-  pub row-of-look : (object : ℕ) (l : SignalLook) → object < length t.signals → IsIn (looks_at t.signal_looks object) l → IsIn (stood t) (signal_look_stood object l)
+  pub row-of-look : (object : ℕ) (l : SignalLook) → object < length t.signals → IsIn (looks_at t.looks.signals object) l → IsIn (stood t) (signal_look_stood object l)
   row-of-look object l within is =
       let line = signal_look_stood object l in
-      within_signals line (in-back upto_msgqs signals line (in-looks t.signal_looks 0 t.signals object object l (omega arith) within is))
+      within_signals line (in-back upto_msgqs signals line (in-looks t.looks.signals 0 t.signals object object l (omega arith) within is))
 
   -- an entry that is shown somewhere has its line
   shown-line : {O R : Type 0} (e : Entry O R) (spot : Spot) (number step : ℕ) → ◌≡◌ {A = ℕ × ℕ} (single.step_of e) (number, step) →
@@ -199,7 +199,7 @@ module _ (t : Trace) where
   row-of-shown (spots.Signal o p) number step is =
       let e = one_part single.step_of (entry_at t.signals o p) (number, step) is in
       let line = entry_line (homes.Object families.Signal o) p e.0 in
-      shown-line e.0 (spots.Signal o p) number step e.2 (within_signals line (in-back upto_msgqs signals line (in-writes t.signal_looks 0 t.signals o o p e.0 (omega arith) e.1)))
+      shown-line e.0 (spots.Signal o p) number step e.2 (within_signals line (in-back upto_msgqs signals line (in-writes t.looks.signals 0 t.signals o o p e.0 (omega arith) e.1)))
   row-of-shown (spots.Chan o p) number step is =
       let e = one_part single.step_of (entry_at t.chans o p) (number, step) is in
       let line = entry_line (homes.Object families.Chan o) p e.0 in
@@ -226,14 +226,14 @@ module _ (t : Trace) where
         histories-each P family 0 hs (λ o p e there.
         entries (spot_in family (0 + o) p) e.who.number e.step (ap (λ (n : ℕ). shown_at (trace_shown t) (spot_in family n p)) (begin o) ∙ shows o p ∙ ap (option_map single.step_of) there))
 
-    looks-each : ((o : ℕ) → o < length t.signals → AllByRecursion (λ l. P (signal_look_stood o l)) (looks_at t.signal_looks o)) → AllByRecursion P signals
+    looks-each : ((o : ℕ) → o < length t.signals → AllByRecursion (λ l. P (signal_look_stood o l)) (looks_at t.looks.signals o)) → AllByRecursion P signals
     looks-each looked =
-        signals-each P t.signal_looks 0 t.signals
+        signals-each P t.looks.signals 0 t.signals
         (λ o p e there. entries (spots.Signal (0 + o) p) e.who.number e.step (ap (λ (n : ℕ). option_map single.step_of (entry_at t.signals n p)) (begin o) ∙ ap (option_map single.step_of) there))
         (λ o within. looked (0 + o) (let it = begin o in omega arith))
 
-    pub stood-each : AllByRecursion (λ l. P (item_look_stood l)) t.item_looks →
-        ((o : ℕ) → o < length t.signals → AllByRecursion (λ l. P (signal_look_stood o l)) (looks_at t.signal_looks o)) → AllByRecursion P (stood t)
+    pub stood-each : AllByRecursion (λ l. P (item_look_stood l)) t.looks.items →
+        ((o : ℕ) → o < length t.signals → AllByRecursion (λ l. P (signal_look_stood o l)) (looks_at t.looks.signals o)) → AllByRecursion P (stood t)
     stood-each seen looked =
         all-append P upto_chans observers
         (all-append P upto_signals chans
@@ -242,7 +242,7 @@ module _ (t : Trace) where
         (all-append P upto_tables sems
         (all-append P upto_clocks tables
         (all-append P upto_items clocks
-        (all-append P works items (home-each homes.Work t.work (λ p. refl)) (mapped-each P item_look_stood t.item_looks seen))
+        (all-append P works items (home-each homes.Work t.work (λ p. refl)) (mapped-each P item_look_stood t.looks.items seen))
         (home-each homes.Clock t.clock (λ p. refl)))
         (home-each homes.Table t.table (λ p. refl)))
         (family-each families.Sem t.sems (λ o p. refl)))
@@ -256,5 +256,5 @@ module _ (t : Trace) where
   rows-shown =
       let Shows : Stood → Type 0 = λ l. is_look l.spot ≡ false → shown_at (trace_shown t) l.spot ≡ Some (l.player, l.step) in
       stood-each Shows (λ spot number step is entry. is)
-      (each-of (λ (l : ItemLook). Shows (item_look_stood l)) (λ l entry. absurd (true≢false entry)) t.item_looks)
-      (λ o within. each-of (λ (l : SignalLook). Shows (signal_look_stood o l)) (λ l entry. absurd (true≢false entry)) (looks_at t.signal_looks o))
+      (each-of (λ (l : ItemLook). Shows (item_look_stood l)) (λ l entry. absurd (true≢false entry)) t.looks.items)
+      (λ o within. each-of (λ (l : SignalLook). Shows (signal_look_stood o l)) (λ l entry. absurd (true≢false entry)) (looks_at t.looks.signals o))

@@ -191,31 +191,31 @@ module _ (s : Content) (t : Trace) (form : IsInForm s t) where
     by (spots.LookSignal object seen) is = absurd (none-some (number, step) is)
 
   -- the looks at each signal are of players
-  pub look-players : (object : ℕ) → AllByRecursion (λ l. l.player < length t.logs) (looks_at t.signal_looks object)
-  look-players object = by (slice_get t.signal_looks object) refl where
+  pub look-players : (object : ℕ) → AllByRecursion (λ l. l.player < length t.logs) (looks_at t.looks.signals object)
+  look-players object = by (slice_get t.looks.signals object) refl where
     each : (ls : List SignalLook) → ((ls ≡ []) ⊎ AllFit (FitsSignalLook s.decls) None ls) → AllByRecursion (λ l. l.player < length t.logs) ls
     each ls (inl none) = subst (AllByRecursion (λ (l : SignalLook). l.player < length t.logs)) (sym none) tt
     each ls (inr fit) = fits-each (FitsSignalLook s.decls) (λ l. l.player < length t.logs) (λ last l fits. subst (λ (n : ℕ). l.player < n) (sym logs-long) fits.1.player) None ls fit
 
-    by : (o : Option (List SignalLook)) → slice_get t.signal_looks object ≡ o → AllByRecursion (λ l. l.player < length t.logs) (looks_at t.signal_looks object)
+    by : (o : Option (List SignalLook)) → slice_get t.looks.signals object ≡ o → AllByRecursion (λ l. l.player < length t.logs) (looks_at t.looks.signals object)
     by None is = subst (λ (o : Option (List SignalLook)). AllByRecursion (λ (l : SignalLook). l.player < length t.logs) (option_map_or (λ x. x) o [])) (sym is) tt
     by (Some ls) is =
-        subst (AllByRecursion (λ (l : SignalLook). l.player < length t.logs)) (sym (looks-there t.signal_looks object ls is))
-        (each ls (kind-at is_signal (AllFit (FitsSignalLook s.decls) None) s.decls t.signal_looks form.signal_looks object ls is))
+        subst (AllByRecursion (λ (l : SignalLook). l.player < length t.logs)) (sym (looks-there t.looks.signals object ls is))
+        (each ls (kind-at is_signal (AllFit (FitsSignalLook s.decls) None) s.decls t.looks.signals form.signal_looks object ls is))
 
   -- each line is of a player
   pub players-known : AllByRecursion (λ l. l.player < length t.logs) (stood t)
   players-known =
       stood-each t (λ l. l.player < length t.logs) shown-known
-      (fits-each (FitsItemLook s.decls) (λ (l : ItemLook). l.player < length t.logs) (λ last l fits. subst (λ (n : ℕ). l.player < n) (sym logs-long) fits.1.player) None t.item_looks form.item_looks)
+      (fits-each (FitsItemLook s.decls) (λ (l : ItemLook). l.player < length t.logs) (λ last l fits. subst (λ (n : ℕ). l.player < n) (sym logs-long) fits.1.player) None t.looks.items form.item_looks)
       (λ object within. look-players object)
 
   -- each look at a signal is at one
   looks-within : AllByRecursion (λ l. SignalWithin (length t.signals) l.spot) (stood t)
   looks-within =
       stood-each t (λ l. SignalWithin (length t.signals) l.spot) shown
-      (each-of (λ (l : ItemLook). SignalWithin (length t.signals) (item_look_stood l).spot) (λ l. tt) t.item_looks)
-      (λ object within. each-of (λ (l : SignalLook). SignalWithin (length t.signals) (signal_look_stood object l).spot) (λ l. within) (looks_at t.signal_looks object))
+      (each-of (λ (l : ItemLook). SignalWithin (length t.signals) (item_look_stood l).spot) (λ l. tt) t.looks.items)
+      (λ object within. each-of (λ (l : SignalLook). SignalWithin (length t.signals) (signal_look_stood object l).spot) (λ l. within) (looks_at t.looks.signals object))
     where
       shown : (spot : Spot) (number step : ℕ) → shown_at (trace_shown t) spot ≡ Some (number, step) → SignalWithin (length t.signals) spot
       shown (spots.LookSignal object seen) number step is = absurd (none-some (number, step) is)
@@ -283,7 +283,7 @@ module _ (s : Content) (t : Trace) (form : IsInForm s t) where
         subst (λ (x : Spot). SignalWithin (length t.signals) x) found.2
         (each-in (λ l. SignalWithin (length t.signals) l.spot) (stood t) found.0 looks-within (from-sorted player found.0 (k, found.1)).0) in
         let told : signal_look_at object player k spot ≡ Some look = cond-true (object == object) (Some look) None (eq-eqb object object refl) in
-        let same : looks_at t.signal_looks object ≡ all_looks (signal_look_at object) 0 t.logs =
+        let same : looks_at t.looks.signals object ≡ all_looks (signal_look_at object) 0 t.logs =
         ap (λ (ls : List (List SignalLook)). looks_at ls object) placed.signal_looks ∙ looks-of-logs (length t.signals) t.logs object within in
         row-of-look t object look within
         (subst (λ (ls : List SignalLook). IsIn ls look) (sym same) (in-logs (signal_look_at object) 0 t.logs player player log k spot look (omega arith) there here told))

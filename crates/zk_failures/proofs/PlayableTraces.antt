@@ -44,40 +44,40 @@ parts w l c t s m g h o = simp append_assoc
 
 pub lines-parts : (t : Trace) → stood t ≡ single_lines t ++ (waited_lines t ++ bus_lines t)
 lines-parts t =
-    parts (entries_stood homes.Work 0 t.work) (map item_look_stood t.item_looks) (entries_stood homes.Clock 0 t.clock) (entries_stood homes.Table 0 t.table)
-    (histories_stood families.Sem 0 t.sems) (histories_stood families.Msgq 0 t.msgqs) (signals_stood t.signal_looks 0 t.signals)
+    parts (entries_stood homes.Work 0 t.work) (map item_look_stood t.looks.items) (entries_stood homes.Clock 0 t.clock) (entries_stood homes.Table 0 t.table)
+    (histories_stood families.Sem 0 t.sems) (histories_stood families.Msgq 0 t.msgqs) (signals_stood t.looks.signals 0 t.signals)
     (histories_stood families.Chan 0 t.chans) (histories_stood families.Obs 0 t.observers)
 
 pub length-histories : {O R : Type 0} (family : Family) (hs : List (List (Entry O R))) → length (histories_stood family 0 hs) ≡ line_count [] 0 hs
 length-histories family hs = ap (λ (l : List Stood). length l) (sym (histories-objects family 0 hs)) ∙ length-objects family [] 0 hs
 
 -- how many lines each part has
-pub length-single : (t : Trace) → length (single_lines t) ≡ length t.work + length t.item_looks + (length t.clock + length t.table)
+pub length-single : (t : Trace) → length (single_lines t) ≡ length t.work + length t.looks.items + (length t.clock + length t.table)
 length-single t =
     let w = entries_stood homes.Work 0 t.work in
-    let l = map item_look_stood t.item_looks in
+    let l = map item_look_stood t.looks.items in
     let c = entries_stood homes.Clock 0 t.clock in
     let b = entries_stood homes.Table 0 t.table in
     let whole = length-append w (l ++ (c ++ b)) in
     let behind = length-append l (c ++ b) in
     let last = length-append c b in
     let work = entries-long homes.Work 0 t.work in
-    let looks = length-map t.item_looks item_look_stood in
+    let looks = length-map t.looks.items item_look_stood in
     let clock = entries-long homes.Clock 0 t.clock in
     let table = entries-long homes.Table 0 t.table in
     omega arith
 
-pub length-waited : (t : Trace) → length (waited_lines t) ≡ line_count [] 0 t.sems + line_count [] 0 t.msgqs + line_count t.signal_looks 0 t.signals
+pub length-waited : (t : Trace) → length (waited_lines t) ≡ line_count [] 0 t.sems + line_count [] 0 t.msgqs + line_count t.looks.signals 0 t.signals
 length-waited t =
     let a = histories_stood families.Sem 0 t.sems in
     let b = histories_stood families.Msgq 0 t.msgqs in
-    let c = signals_stood t.signal_looks 0 t.signals in
+    let c = signals_stood t.looks.signals 0 t.signals in
     let whole = length-append a (b ++ c) in
     let behind = length-append b c in
     let sems = length-histories families.Sem t.sems in
     let msgqs = length-histories families.Msgq t.msgqs in
-    let signals : length c ≡ line_count t.signal_looks 0 t.signals =
-    ap (λ (l : List Stood). length l) (sym (signals-objects t.signal_looks 0 t.signals)) ∙ length-objects families.Signal t.signal_looks 0 t.signals in
+    let signals : length c ≡ line_count t.looks.signals 0 t.signals =
+    ap (λ (l : List Stood). length l) (sym (signals-objects t.looks.signals 0 t.signals)) ∙ length-objects families.Signal t.looks.signals 0 t.signals in
     omega arith
 
 pub length-bus : (t : Trace) → length (bus_lines t) ≡ line_count [] 0 t.chans + line_count [] 0 t.observers
@@ -97,8 +97,8 @@ length-parts t =
 -- how many lines the parts have together
 pub record FewLines (t : Trace) : Type 0 where
   pub single : length (single_lines t) + (length (waited_lines t) + length (bus_lines t)) < most_entries
-  pub histories : length t.work + length t.item_looks + (length t.clock + length t.table) < most_entries
-  pub waited : line_count [] 0 t.sems + line_count [] 0 t.msgqs + line_count t.signal_looks 0 t.signals < most_entries
+  pub histories : length t.work + length t.looks.items + (length t.clock + length t.table) < most_entries
+  pub waited : line_count [] 0 t.sems + line_count [] 0 t.msgqs + line_count t.looks.signals 0 t.signals < most_entries
   pub bus : line_count [] 0 t.chans + line_count [] 0 t.observers < most_entries
 
 pub few-lines : (t : Trace) → length (stood t) < most_entries → FewLines t

@@ -280,23 +280,23 @@ many-more kind part xs ys upto over from = next-kind kind xs ys upto over (kind-
 stood-order : (t : Trace) → InOrder (stood t)
 stood-order t =
     let works = entries_stood homes.Work 0 t.work in
-    let items = map item_look_stood t.item_looks in
+    let items = map item_look_stood t.looks.items in
     let clocks = entries_stood homes.Clock 0 t.clock in
     let tables = entries_stood homes.Table 0 t.table in
     let sems = histories_stood families.Sem 0 t.sems in
     let msgqs = histories_stood families.Msgq 0 t.msgqs in
-    let signals = signals_stood t.signal_looks 0 t.signals in
+    let signals = signals_stood t.looks.signals 0 t.signals in
     let chans = histories_stood families.Chan 0 t.chans in
     let observers = histories_stood families.Obs 0 t.observers in
     let works_in = entries-in homes.Work 0 t.work in
     let zeroth : Upto 1 works =
     (order-one 0 0 works works_in, each-weaker (IsIn 0 0) (λ l. section_of l < 1) (λ l is. omega (arith, is.section_is)) works works_in) in
-    let first = one-more 1 0 works items zeroth (items-in t.item_looks) in
+    let first = one-more 1 0 works items zeroth (items-in t.looks.items) in
     let second = one-more 2 0 (works ++ items) clocks first (entries-in homes.Clock 0 t.clock) in
     let third = one-more 3 0 (works ++ items ++ clocks) tables second (entries-in homes.Table 0 t.table) in
     let fourth = many-more 4 0 (works ++ items ++ clocks ++ tables) sems third (histories-order families.Sem 0 t.sems) (histories-from families.Sem 0 t.sems) in
     let fifth = many-more 5 0 (works ++ items ++ clocks ++ tables ++ sems) msgqs fourth (histories-order families.Msgq 0 t.msgqs) (histories-from families.Msgq 0 t.msgqs) in
-    let sixth = many-more 6 0 (works ++ items ++ clocks ++ tables ++ sems ++ msgqs) signals fifth (signals-order t.signal_looks 0 t.signals) (signals-from t.signal_looks 0 t.signals) in
+    let sixth = many-more 6 0 (works ++ items ++ clocks ++ tables ++ sems ++ msgqs) signals fifth (signals-order t.looks.signals 0 t.signals) (signals-from t.looks.signals 0 t.signals) in
     let seventh = many-more 7 0 (works ++ items ++ clocks ++ tables ++ sems ++ msgqs ++ signals) chans sixth (histories-order families.Chan 0 t.chans) (histories-from families.Chan 0 t.chans) in
     (many-more 8 0 (works ++ items ++ clocks ++ tables ++ sems ++ msgqs ++ signals ++ chans) observers seventh (histories-order families.Obs 0 t.observers) (histories-from families.Obs 0 t.observers)).0
 

@@ -14,7 +14,7 @@ use Rattle.zk_trace.specs.declared.trace.Trace.{Trace}
 use Rattle.zk_trace.specs.Stood.{entries_stood, histories_stood, signals_stood, item_look_stood}
 use Rattle.zk_trace.specs.Text.{looks_at}
 use Rattle.zk_failures.specs.First.{IsFirst}
-use Rattle.zk_failures.specs.HistoryFailure.{IsUnlike, IsUnlikeIn}
+use Rattle.zk_failures.specs.HistoryFailure.{IsUnlike}
 
 -- the first entry of a history that its machine doesn't answer so, if there is one
 abbrev pub FirstUnlike : {S O R : Type 0} → Machine S O R → S → List (Entry O R) → Option ℕ → Type 0
@@ -67,14 +67,14 @@ Sought Stands Unlike lines (Some place) = IsFoundAt Unlike lines place
 -- those of the services of which there is one
 abbrev pub single_lines : Trace → List Stood
 single_lines t =
-    entries_stood homes.Work 0 t.work ++ (map item_look_stood t.item_looks
+    entries_stood homes.Work 0 t.work ++ (map item_look_stood t.looks.items
     ++ (entries_stood homes.Clock 0 t.clock ++ entries_stood homes.Table 0 t.table))
 
 -- those of what players wait for
 abbrev pub waited_lines : Trace → List Stood
 waited_lines t =
     histories_stood families.Sem 0 t.sems ++ (histories_stood families.Msgq 0 t.msgqs
-    ++ signals_stood t.signal_looks 0 t.signals)
+    ++ signals_stood t.looks.signals 0 t.signals)
 
 -- those of the bus
 abbrev pub bus_lines : Trace → List Stood

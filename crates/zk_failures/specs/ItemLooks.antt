@@ -58,4 +58,4 @@ is_found s t look = finds (work_start_of s) (items_of s.decls) t.work look
 -- this is the place of the first look of a trace that didn't, if there is one
 abbrev pub FirstMissed : Content → Trace → Option ℕ → Type 0
 FirstMissed s t first =
-    MatchOption first (All (λ look. is_found s t look ≡ true) t.item_looks) (λ place. IsFirstMissed (is_found s t) t.item_looks place)
+    MatchOption first (All (λ look. is_found s t look ≡ true) t.looks.items) (λ place. IsFirstMissed (is_found s t) t.looks.items place)

@@ -7,6 +7,7 @@ use Rattle.zk_model_wait.specs.declared.signal.SignalOp.{SignalOp}
 use Rattle.zk_model_wait.specs.declared.signal.SignalReply.{SignalReply}
 use Rattle.zk_scenario.specs.Content.{Content}
 use Rattle.zk_scenario.specs.Spelling.{text_of}
+use Rattle.zk_trace.specs.declared.format.Format.{Format}
 use Rattle.zk_trace.specs.declared.looks.SignalLook.{SignalLook}
 use Rattle.zk_trace.specs.declared.trace.Trace.{Trace}
 use Rattle.zk_trace.specs.AnswerRead.{answered_row}
@@ -29,23 +30,23 @@ signal_texts decls (h ∷ hs) (l ∷ ls) = map (signal_row decls) h ++ map (sign
 -- the lines of all entries and looks, in the order of the text, without their feeds
 abbrev pub texts_of : List Decl → Trace → List (List ℕ)
 texts_of decls t =
-    map (work_row decls) t.work ++ map (item_look_row decls) t.item_looks
+    map (work_row decls) t.work ++ map (item_look_row decls) t.looks.items
     ++ map (clock_row decls) t.clock ++ map (table_row decls) t.table
     ++ flat_map (map (sem_row decls)) t.sems ++ flat_map (map (msgq_row decls)) t.msgqs
-    ++ signal_texts decls t.signals t.signal_looks
+    ++ signal_texts decls t.signals t.looks.signals
     ++ flat_map (map (chan_row decls)) t.chans ++ flat_map (map (obs_row decls)) t.observers
 
 -- the line of what stands somewhere, if anything does, without its feed
-abbrev pub text_at : List Decl → Trace → Site → Option (List ℕ)
-text_at decls t Ending = Some (ending_word t.ending)
-text_at decls t (Row place) = slice_get (texts_of decls t) place
-text_at decls t (Player player) =
-    option_map (λ log. player_row (player_name decls player) log.state) (slice_get t.logs player)
-text_at decls t (Answer player place) =
+abbrev pub text_at : Format → List Decl → Trace → Site → Option (List ℕ)
+text_at f decls t Ending = Some (ending_word t.ending)
+text_at f decls t (Row place) = slice_get (texts_of decls t) place
+text_at f decls t (Player player) =
+    option_map (λ log. player_row f (player_name decls player) log.state (length log.answers)) (slice_get t.logs player)
+text_at f decls t (Answer player place) =
     option_and_then (λ log. option_map (answered_row decls) (slice_get log.answers place)) (slice_get t.logs player)
 
--- in the scenario's text followed by the trace's, the line of this number is that of what stands there
-abbrev pub IsItsLine : Content → Trace → Site → Type 0
-IsItsLine s t site =
-    (text : List ℕ) → text_at s.decls t site ≡ Some text →
-    slice_get (lines_in (text_of s ++ trace_text s t)) (length (lines_in (text_of s)) + trace_line t site) ≡ Some text
+-- in the scenario's text followed by the trace's in a format, the line of this number is that of what stands there
+abbrev pub IsItsLine : Format → Content → Trace → Site → Type 0
+IsItsLine f s t site =
+    (text : List ℕ) → text_at f s.decls t site ≡ Some text →
+    slice_get (lines_in (text_of s ++ trace_text f s t)) (length (lines_in (text_of s)) + trace_line t site) ≡ Some text

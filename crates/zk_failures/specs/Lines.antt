@@ -17,8 +17,8 @@ both_lengths (h ∷ hs) (l ∷ ls) = (length h + length l) ∷ both_lengths hs l
 -- how many rows each section has, in the order of the text; one without rows doesn't stand there
 abbrev pub section_lengths : Trace → List ℕ
 section_lengths t =
-    ((length t.work + length t.item_looks) ∷ length t.clock ∷ length t.table ∷ [])
-    ++ map length t.sems ++ map length t.msgqs ++ both_lengths t.signals t.signal_looks
+    ((length t.work + length t.looks.items) ∷ length t.clock ∷ length t.table ∷ [])
+    ++ map length t.sems ++ map length t.msgqs ++ both_lengths t.signals t.looks.signals
     ++ map length t.chans ++ map length t.observers
 
 -- how many lines a section of so many rows has: a head and the rows, or none

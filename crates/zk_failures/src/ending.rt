@@ -12,8 +12,9 @@ ghost use Rattle.zk_failures.specs.CanStep.{CanTry, EachCanTry, Steps, NoneSteps
 ghost use Rattle.zk_failures.specs.Played.{ArePlayedOut};
 
 use zk_base::NoMemory;
+use zk_gathering::none_waits;
 use zk_scenario::Scenario;
-use zk_services::{Plain, none_waits};
+use zk_services::Plain;
 use zk_trace::{Ending, Trace};
 use zk_worker::{Log, MOST_ATTEMPTS, Player, PlayerState, Services};
 

@@ -33,7 +33,7 @@ fn single_failure(services: &mut Plain, trace: &Trace) -> Result<Option<u64>, No
     if let Some(place) = first_unlike(&mut services.work, trace.work.items())? {
         return Ok(Some(place));
     }
-    let lines = (trace.work.items().len() + trace.item_looks.items().len()) as u64;
+    let lines = (trace.work.items().len() + trace.looks.items.items().len()) as u64;
     if let Some(place) = first_unlike(&mut services.clock, trace.clock.items())? {
         return Ok(Some(lines + place));
     }
@@ -64,7 +64,7 @@ fn waited_failure(services: &mut Plain, trace: &Trace) -> Result<Option<u64>, No
         return Ok(Some(lines + row));
     }
     let lines = lines + line_count(trace.msgqs.items(), &[]);
-    let looks = trace.signal_looks.items();
+    let looks = trace.looks.signals.items();
     match first_among(&mut services.signals, trace.signals.items(), looks)? {
         Some(row) => Ok(Some(lines + row)),
         None => Ok(None),
@@ -97,7 +97,7 @@ fn single_count(trace: &Trace) -> u64
     requires { length (single_lines trace.now) < most_entries }
     ensures { result ≡ length (single_lines trace.now) }
 {
-    let work = trace.work.items().len() + trace.item_looks.items().len();
+    let work = trace.work.items().len() + trace.looks.items.items().len();
     let others = trace.clock.items().len() + trace.table.items().len();
     (work + others) as u64
 }
@@ -109,7 +109,7 @@ fn waited_count(trace: &Trace) -> u64
 {
     let sems = line_count(trace.sems.items(), &[]);
     let msgqs = line_count(trace.msgqs.items(), &[]);
-    sems + msgqs + line_count(trace.signals.items(), trace.signal_looks.items())
+    sems + msgqs + line_count(trace.signals.items(), trace.looks.signals.items())
 }
 
 /// The first line, among those of all entries and looks, that is an entry which its service doesn't answer so.

@@ -143,7 +143,7 @@ pub fn first_missed(
     requires short { length trace.now.work < most_entries }
     ensures { IfOk result (λ first. FirstMissed scenario.now trace.now first) }
 {
-    let fronts = by_front(alloc, trace.item_looks.items())?;
+    let fronts = by_front(alloc, trace.looks.items.items())?;
     let mut services = first_services(alloc, scenario)?;
     let missed = missed_places(
         alloc,

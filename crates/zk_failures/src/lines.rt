@@ -1,5 +1,6 @@
 ghost use Rattle.std.specs.Prelude.{◌≡◌, ◌+◌, ◌++◌, map, length, IfOk, OnOk};
 ghost use Rattle.std.specs.List.{sum_by};
+ghost use Rattle.zk_trace.specs.declared.format.Format.{Format};
 ghost use Rattle.zk_trace.specs.Form.{IsInForm};
 ghost use Rattle.zk_trace.specs.Text.{looks_at};
 ghost use Rattle.zk_trace.specs.TraceRead.{line_number};
@@ -11,7 +12,7 @@ use crate::site::Site;
 use std::alloc::Global;
 use zk_base::{Listed, NoMemory};
 use zk_scenario::{Scenario, print_scenario};
-use zk_trace::{History, SignalLook, Trace, line_count};
+use zk_trace::{History, SignalLook, Trace, line_count, trace_counts};
 use zk_worker::Log;
 
 /// The number of the line of what stands somewhere, from 1, in the scenario's text followed by the trace's.
@@ -30,12 +31,13 @@ pub fn line_at(
     Ok(line_number(first, trace_line(trace, &lengths, site)))
 }
 
-/// The line of this number is that of what stands there.
+/// The line of this number is that of what stands there, in whichever format the trace is written.
 pub fn is_its_line(scenario: &Scenario, trace: &Trace, site: Site)
     requires { IsInForm scenario.now trace.now }
-    ensures { IsItsLine scenario.now trace.now site }
+    ensures { (f : Format) → IsItsLine f scenario.now trace.now site }
 {
     let _readable = scenario.decls();
+    trace_counts(trace);
 }
 
 /// The number of a line, by its place.
@@ -130,7 +132,7 @@ fn section_lengths(alloc: Global, trace: &Trace) -> Result<Vec<usize>, NoMemory>
     ensures { IfOk result (λ lengths. lengths.items ≡ section_lengths trace.now) }
 {
     let mut lengths = Vec::new(alloc);
-    lengths.push(trace.work.items().len() + trace.item_looks.items().len())?;
+    lengths.push(trace.work.items().len() + trace.looks.items.items().len())?;
     lengths.push(trace.clock.items().len())?;
     lengths.push(trace.table.items().len())?;
     put_lengths(&mut lengths, trace.sems.items())?;
@@ -138,7 +140,7 @@ fn section_lengths(alloc: Global, trace: &Trace) -> Result<Vec<usize>, NoMemory>
     put_both(
         &mut lengths,
         trace.signals.items(),
-        trace.signal_looks.items(),
+        trace.looks.signals.items(),
     )?;
     put_lengths(&mut lengths, trace.chans.items())?;
     put_lengths(&mut lengths, trace.observers.items())?;

@@ -17,19 +17,22 @@ use Rattle.zk_scenario.specs.declared.refused.ScenarioRefused.{ScenarioRefused}
 use Rattle.zk_scenario.specs.declared.refused.ScenarioRefused.TheVariants as refusals
 use Rattle.zk_scenario.specs.declared.limits.TheConstants.{LONGEST_SCENARIO}
 use Rattle.zk_scenario.specs.Grammar.{scenario_of, read_pieces, pieces_of}
+use Rattle.zk_trace.specs.declared.format.Format.TheVariants.{One}
+use Rattle.zk_trace.specs.declared.format.Formats.{Formats}
+use Rattle.zk_trace.specs.declared.format.Formats.TheVariants.{Both, First}
 use Rattle.zk_trace.specs.declared.trace.Ending.{Ending}
 use Rattle.zk_trace.specs.declared.trace.Ending.TheVariants as endings
 use Rattle.zk_trace.specs.declared.trace.Trace.{Trace}
 use Rattle.zk_trace.specs.Lawful.{IsLawful}
 use Rattle.zk_replay.specs.Replay.{IsReplay}
 use Rattle.zk_forms.specs.declared.form.Form.{Form}
-use Rattle.zk_forms.specs.declared.form.Form.TheVariants.{Replay, Check, Soak, Run}
+use Rattle.zk_forms.specs.declared.form.Form.TheVariants.{Replay, Check, Migrate, Soak, Run}
 use Rattle.zk_forms.specs.declared.form.TheConstants.{LONGEST_TRACE, MOST_SOAK}
 use Rattle.zk_forms.specs.Input.{HasRead, GaveAtMost}
 use Rattle.zk_forms.specs.Output.{AppendsFront}
 use Rattle.zk_base.specs.declared.errors.NoMemory.{NoMemory as Want}
 use Rattle.zk_forms.specs.Answer.{IsPrinted, IsRun, IsRefusal, IsOutput, status_of}
-use Rattle.zk_forms.specs.CheckAnswer.{IsRefusedSo, too_long, no_scenario, no_trace, IsCheckOutput}
+use Rattle.zk_forms.specs.CheckAnswer.{IsRefusedSo, too_long, no_scenario, no_trace, IsCheckOutput, IsMigrateOutput}
 use Rattle.zk_forms.specs.SoakAnswer.{IsSoakOutput}
 use Rattle.zk_forms.specs.Top.{form_of, limit_of, Reads, input_of, HasGiven, IsOutputOf, words_refused, Prints, PrintsFront, HasReadAll, IsAnswer, HasInput, MayRun, MayEnd, Answered, answered, cut_short, unmade, most_taken, CallOutcome, no_form, no_form_cut, unread, no_memory, printed, cut}
 
@@ -94,17 +97,17 @@ run-front Made status n input output is out = elim (cases_lt n (length input)) [
 ]
 
 -- and of the input of a check
-too-long : (front input output : List ℕ) → LONGEST_TRACE < length front → LONGEST_TRACE < length input → IsRefusedSo front output → IsRefusedSo input output
-too-long front input output long more (too_long above says) = too_long more says
-too-long front input output long more (no_scenario f t within parts says) = absurd (omega (arith, long, within))
-too-long front input output long more (no_trace f t s line within parts read refused says) = absurd (omega (arith, long, within))
+too-long : (formats : Formats) (front input output : List ℕ) → LONGEST_TRACE < length front → LONGEST_TRACE < length input → IsRefusedSo formats front output → IsRefusedSo formats input output
+too-long formats front input output long more (too_long above says) = too_long more says
+too-long formats front input output long more (no_scenario f t within parts says) = absurd (omega (arith, long, within))
+too-long formats front input output long more (no_trace f t s line within parts read refused says) = absurd (omega (arith, long, within))
 
 long_check : (status : Status) (front input output : List ℕ) → LONGEST_TRACE < length front → LONGEST_TRACE < length input → IsCheckOutput status front output → IsCheckOutput status input output
 long_check Success front input output long more is = absurd (omega (arith, long, is.given.short))
 long_check Unlawful front input output long more is = absurd (omega (arith, long, is.given.short))
 long_check Refused front input output long more is = record {
-  never = λ s t given. absurd (omega (arith, more, given.short));
-  why_so = too-long front input output long more is.why_so;
+  never = λ f s t given. absurd (omega (arith, more, given.short));
+  why_so = too-long Both front input output long more is.why_so;
 }
 long_check Stuck front input output long more is = absurd is
 long_check Spent front input output long more is = absurd is
@@ -121,11 +124,36 @@ check-front status n input output is out = elim (cases_lt n (length input)) [
       long_check status (take n input) input output (omega arith) (omega arith) out
 ]
 
+-- and of `migrate`
+long_migrate : (status : Status) (front input output : List ℕ) → LONGEST_TRACE < length front → LONGEST_TRACE < length input → IsMigrateOutput status front output →
+    IsMigrateOutput status input output
+long_migrate Success front input output long more is = absurd (omega (arith, long, is.given.short))
+long_migrate Refused front input output long more is = record {
+  never = λ f s t given. absurd (omega (arith, more, given.short));
+  why_so = too-long First front input output long more is.why_so;
+}
+long_migrate Unlawful front input output long more is = absurd is
+long_migrate Stuck front input output long more is = absurd is
+long_migrate Spent front input output long more is = absurd is
+long_migrate Words front input output long more is = absurd is
+long_migrate ReadFault front input output long more is = absurd is
+long_migrate WriteFault front input output long more is = absurd is
+long_migrate NoMemory front input output long more is = absurd is
+
+migrate-front : (status : Status) (n : ℕ) (input output : List ℕ) → n ≡ LONGEST_TRACE + 1 → IsMigrateOutput status (take n input) output → IsMigrateOutput status input output
+migrate-front status n input output is out = elim (cases_lt n (length input)) [
+  | inr within ↦ subst (λ (i : List ℕ). IsMigrateOutput status i output) (take_all n input within) out
+  | inl above ↦
+      let sized = length-take-le n input (omega arith) in
+      long_migrate status (take n input) input output (omega arith) (omega arith) out
+]
+
 IsOutput-front : (form : Form) → Reads form → (status : Status) (n : ℕ) (input output : List ℕ) → n ≡ limit_of form + 1 → IsOutputOf form status (take n input) output →
     IsOutputOf form status input output
 IsOutput-front Replay reads status n input output is out = run-front IsReplay status n input output is out
 IsOutput-front (Run cores) reads status n input output is out = run-front IsLawful status n input output is out
 IsOutput-front Check reads status n input output is out = check-front status n input output is out
+IsOutput-front Migrate reads status n input output is out = migrate-front status n input output is out
 IsOutput-front (Soak number) reads status n input output is out = absurd reads
 
 -- a status that has an output of a check is one that prints
@@ -139,6 +167,18 @@ IsAnswer-check Words input output is = absurd is
 IsAnswer-check ReadFault input output is = absurd is
 IsAnswer-check WriteFault input output is = absurd is
 IsAnswer-check NoMemory input output is = absurd is
+
+-- and of `migrate`
+IsAnswer-migrate : (status : Status) (input output : List ℕ) → IsMigrateOutput status input output → IsAnswer status
+IsAnswer-migrate Success input output is = tt
+IsAnswer-migrate Refused input output is = tt
+IsAnswer-migrate Unlawful input output is = absurd is
+IsAnswer-migrate Stuck input output is = absurd is
+IsAnswer-migrate Spent input output is = absurd is
+IsAnswer-migrate Words input output is = absurd is
+IsAnswer-migrate ReadFault input output is = absurd is
+IsAnswer-migrate WriteFault input output is = absurd is
+IsAnswer-migrate NoMemory input output is = absurd is
 
 -- and so is one that has an output of a soak
 IsAnswer-soak : (number : ℕ) (status : Status) (output : List ℕ) → IsSoakOutput number status output → IsAnswer status
@@ -156,6 +196,7 @@ IsAnswer-of : (form : Form) (status : Status) (input output : List ℕ) → IsOu
 IsAnswer-of Replay status input output is = IsAnswer-output IsReplay status input output is
 IsAnswer-of (Run cores) status input output is = IsAnswer-output IsLawful status input output is
 IsAnswer-of Check status input output is = IsAnswer-check status input output is
+IsAnswer-of Migrate status input output is = IsAnswer-migrate status input output is
 IsAnswer-of (Soak number) status input output is = IsAnswer-soak number status output is
 
 given : (many : ℕ) (left left' : Option (List ℕ)) (read : List ℕ) → HasRead many left left' read → HasGiven (many + 1) left left'
@@ -166,6 +207,7 @@ given many (Some input) (Some rest) read has = ap Some has.1
 HasReadAll-read : (form : Form) → Reads form → (left left' : Option (List ℕ)) (read : List ℕ) → HasRead (limit_of form) left left' read → HasReadAll form left left'
 HasReadAll-read Replay reads left left' read has = given (limit_of Replay) left left' read has
 HasReadAll-read Check reads left left' read has = given (limit_of Check) left left' read has
+HasReadAll-read Migrate reads left left' read has = given (limit_of Migrate) left left' read has
 HasReadAll-read (Run cores) reads left left' read has = given (limit_of (Run cores)) left left' read has
 HasReadAll-read (Soak number) reads left left' read has = absurd reads
 
@@ -173,6 +215,7 @@ HasReadAll-read (Soak number) reads left left' read has = absurd reads
 input-left : (form : Form) → Reads form → (left : Option (List ℕ)) → input_of form left ≡ left
 input-left Replay reads left = refl
 input-left Check reads left = refl
+input-left Migrate reads left = refl
 input-left (Run cores) reads left = refl
 input-left (Soak number) reads left = absurd reads
 
@@ -237,12 +280,13 @@ taken-none most (Some input) = ([], omega arith, refl)
 -- no words of a form on one thread ask for cores
 pub never-cores : (words : List (List ℕ)) (cores : ℕ) → form_of words ≡ Some (Run cores) → ⊥
 never-cores [] cores is = absurd (cc)
-never-cores (word ∷ []) cores is = by (bytes_eq word (codes "replay")) (bytes_eq word (codes "check")) is
+never-cores (word ∷ []) cores is = by (bytes_eq word (codes "replay")) (bytes_eq word (codes "check")) (bytes_eq word (codes "migrate")) is
   where
-    by : (a b : Bool) → cond a (Some Replay) (cond b (Some Check) None) ≡ Some (Run cores) → ⊥
-    by true b is = absurd (cc)
-    by false true is = absurd (cc)
-    by false false is = absurd (cc)
+    by : (a b c : Bool) → cond a (Some Replay) (cond b (Some Check) (cond c (Some Migrate) None)) ≡ Some (Run cores) → ⊥
+    by true b c is = absurd (cc)
+    by false true c is = absurd (cc)
+    by false false true is = absurd (cc)
+    by false false false is = absurd (cc)
 never-cores (word ∷ number ∷ []) cores is = by (bytes_eq word (codes "soak")) (number_in 0 MOST_SOAK number) is
   where
     by : (a : Bool) (o : Option ℕ) → cond a (option_map Soak o) None ≡ Some (Run cores) → ⊥
@@ -385,15 +429,24 @@ MayEnd-output (Run cores) Words input output is = MayRun-output IsLawful Words i
 MayEnd-output (Run cores) ReadFault input output is = absurd is
 MayEnd-output (Run cores) WriteFault input output is = absurd is
 MayEnd-output (Run cores) NoMemory input output is = absurd is
-MayEnd-output Check Success input output is = (is.s, is.t, is.given)
-MayEnd-output Check Unlawful input output is = (is.s, is.t, is.given)
-MayEnd-output Check Refused input output is = λ trace. is.never trace.0 trace.1 trace.2
+MayEnd-output Check Success input output is = (is.f, is.s, is.t, is.given)
+MayEnd-output Check Unlawful input output is = (is.f, is.s, is.t, is.given)
+MayEnd-output Check Refused input output is = λ trace. is.never trace.0 trace.1 trace.2 trace.3
 MayEnd-output Check Stuck input output is = absurd is
 MayEnd-output Check Spent input output is = absurd is
 MayEnd-output Check Words input output is = absurd is
 MayEnd-output Check ReadFault input output is = absurd is
 MayEnd-output Check WriteFault input output is = absurd is
 MayEnd-output Check NoMemory input output is = absurd is
+MayEnd-output Migrate Success input output is = (One, is.s, is.t, is.given)
+MayEnd-output Migrate Refused input output is = λ trace. is.never trace.0 trace.1 trace.2 trace.3
+MayEnd-output Migrate Unlawful input output is = absurd is
+MayEnd-output Migrate Stuck input output is = absurd is
+MayEnd-output Migrate Spent input output is = absurd is
+MayEnd-output Migrate Words input output is = absurd is
+MayEnd-output Migrate ReadFault input output is = absurd is
+MayEnd-output Migrate WriteFault input output is = absurd is
+MayEnd-output Migrate NoMemory input output is = absurd is
 MayEnd-output (Soak number) Success input output is = tt
 MayEnd-output (Soak number) Stuck input output is = tt
 MayEnd-output (Soak number) Spent input output is = tt
@@ -415,18 +468,21 @@ MayEnd-prints form status (Some input) old new prints = MayEnd-output form statu
 may-unread : (form : Form) → Reads form → (input : List ℕ) → MayEnd form input ReadFault
 may-unread Replay does input = tt
 may-unread Check does input = tt
+may-unread Migrate does input = tt
 may-unread (Run cores) does input = tt
 may-unread (Soak number) does input = absurd does
 
 may-want : (form : Form) (input : List ℕ) → MayEnd form input NoMemory
 may-want Replay input = tt
 may-want Check input = tt
+may-want Migrate input = tt
 may-want (Run cores) input = tt
 may-want (Soak number) input = tt
 
 may-cut : (form : Form) (input : List ℕ) → MayEnd form input WriteFault
 may-cut Replay input = tt
 may-cut Check input = tt
+may-cut Migrate input = tt
 may-cut (Run cores) input = tt
 may-cut (Soak number) input = tt
 

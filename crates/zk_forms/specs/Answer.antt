@@ -16,6 +16,7 @@ use Rattle.zk_scenario.specs.Grammar.{scenario_of}
 use Rattle.zk_scenario.specs.Spelling.{text_of}
 use Rattle.zk_worker.specs.Machines.{work_start_of, machines_of}
 use Rattle.zk_worker.specs.TableSetup.{setup_of}
+use Rattle.zk_trace.specs.declared.format.Format.TheVariants.{Two}
 use Rattle.zk_trace.specs.declared.trace.Trace.{Trace}
 use Rattle.zk_trace.specs.declared.trace.Ending.{Ending}
 use Rattle.zk_trace.specs.declared.trace.Ending.TheVariants as endings
@@ -34,7 +35,7 @@ use Rattle.zk_forms.specs.Refusal.{refusal_text}
 use Rattle.zk_forms.specs.Scripts.{EachEntersItsScripts}
 use Rattle.zk_forms.specs.Told.{EachTellsItsPlayer}
 
--- the input is the text of a scenario, and the output is that text and a trace of it, in form. The trace is lawful for the scenario, its
+-- the input is the text of a scenario, and the output is that text and a trace of it, in form, in format 2. The trace is lawful for the scenario, its
 -- histories keep the laws at each moment, its polls keep theirs, each script is entered that was to be, each publish and notify
 -- has visited its observers or was refused, each user's call was checked before all else, each other call made the steps of its
 -- form, each player has played its script call by call, with what that opened, and attempted what came next at each moment, each
@@ -61,7 +62,7 @@ pub record IsPrinted (s : Content) (t : Trace) (input output : List ℕ) : Type 
   pub attempts : EachAttemptsItsCalls s t
   pub told : EachTellsItsPlayer s t
   pub over : IsOver s t
-  pub printed : output ≡ text_of s ++ trace_text s t
+  pub printed : output ≡ text_of s ++ trace_text Two s t
 
 -- the output is that of a run of this kind, which ended so
 pub record IsRun (Made : Content → Trace → Type 0) (ending : Ending) (input output : List ℕ) : Type 0 where

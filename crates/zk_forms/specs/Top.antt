@@ -9,24 +9,28 @@ use Rattle.zk_scenario.specs.Content.{Content}
 use Rattle.zk_scenario.specs.declared.limits.TheConstants.{LONGEST_SCENARIO}
 use Rattle.zk_scenario.specs.declared.refused.ScenarioRefused.{ScenarioRefused}
 use Rattle.zk_scenario.specs.Grammar.{scenario_of}
+use Rattle.zk_trace.specs.declared.format.Format.{Format}
+use Rattle.zk_trace.specs.declared.format.Formats.{Formats}
+use Rattle.zk_trace.specs.declared.format.Formats.TheVariants.{Both, First}
 use Rattle.zk_trace.specs.declared.trace.Trace.{Trace}
 use Rattle.zk_trace.specs.Lawful.{IsLawful}
 use Rattle.zk_replay.specs.Replay.{IsReplay}
 use Rattle.zk_cores.specs.declared.run.TheConstants.{MOST_CORES}
 use Rattle.zk_forms.specs.declared.form.Form.{Form}
-use Rattle.zk_forms.specs.declared.form.Form.TheVariants.{Replay, Check, Soak, Run}
+use Rattle.zk_forms.specs.declared.form.Form.TheVariants.{Replay, Check, Migrate, Soak, Run}
 use Rattle.zk_forms.specs.declared.form.TheConstants.{LONGEST_TRACE, MOST_SOAK}
 use Rattle.zk_forms.specs.Output.{AppendsFront}
 use Rattle.zk_forms.specs.Answer.{IsOutput}
-use Rattle.zk_forms.specs.CheckAnswer.{IsTraceOf, IsCheckOutput}
+use Rattle.zk_forms.specs.CheckAnswer.{IsTraceOf, IsCheckOutput, IsMigrateOutput}
 use Rattle.zk_forms.specs.SoakAnswer.{IsSoakOutput}
 
--- the form on one thread that the words ask for, if they are those of one: the word `replay` alone, or `check`, or `soak` and a
--- number
+-- the form on one thread that the words ask for, if they are those of one: the word `replay` alone, or `check`, or `migrate`, or
+-- `soak` and a number
 abbrev pub form_of : List (List ℕ) → Option Form
 form_of (word ∷ []) =
     if bytes_eq word (codes "replay") then Some Replay else
-    if bytes_eq word (codes "check") then Some Check else None
+    if bytes_eq word (codes "check") then Some Check else
+    if bytes_eq word (codes "migrate") then Some Migrate else None
 form_of (word ∷ number ∷ []) =
     if bytes_eq word (codes "soak") then option_map Soak (number_in 0 MOST_SOAK number) else None
 form_of words = None
@@ -46,6 +50,7 @@ needs_cores (word ∷ words) = bytes_eq word (codes "run")
 abbrev pub Reads : Form → Type 0
 Reads Replay = Unit {0}
 Reads Check = Unit {0}
+Reads Migrate = Unit {0}
 Reads (Run cores) = Unit {0}
 Reads (Soak number) = ⊥
 
@@ -53,6 +58,7 @@ Reads (Soak number) = ⊥
 abbrev pub input_of : Form → Option (List ℕ) → Option (List ℕ)
 input_of Replay left = left
 input_of Check left = left
+input_of Migrate left = left
 input_of (Run cores) left = left
 input_of (Soak number) left = Some []
 
@@ -60,6 +66,7 @@ input_of (Soak number) left = Some []
 abbrev pub limit_of : Form → ℕ
 limit_of Replay = LONGEST_SCENARIO
 limit_of Check = LONGEST_TRACE
+limit_of Migrate = LONGEST_TRACE
 limit_of (Run cores) = LONGEST_SCENARIO
 limit_of (Soak number) = 0
 
@@ -68,6 +75,7 @@ abbrev pub most_taken : Option Form → ℕ
 most_taken None = 0
 most_taken (Some Replay) = LONGEST_SCENARIO + 1
 most_taken (Some Check) = LONGEST_TRACE + 1
+most_taken (Some Migrate) = LONGEST_TRACE + 1
 most_taken (Some (Run cores)) = LONGEST_SCENARIO + 1
 most_taken (Some (Soak number)) = 0
 
@@ -76,6 +84,7 @@ most_taken (Some (Soak number)) = 0
 abbrev pub IsOutputOf : Form → Status → List ℕ → List ℕ → Type 0
 IsOutputOf Replay status input output = IsOutput IsReplay status input output
 IsOutputOf Check status input output = IsCheckOutput status input output
+IsOutputOf Migrate status input output = IsMigrateOutput status input output
 IsOutputOf (Run cores) status input output = IsOutput IsLawful status input output
 IsOutputOf (Soak number) status input output = IsSoakOutput number status output
 
@@ -104,6 +113,7 @@ HasGiven many (Some input) left = left ≡ Some (drop many input)
 abbrev pub HasReadAll : Form → Option (List ℕ) → Option (List ℕ) → Type 0
 HasReadAll Replay old new = HasGiven (limit_of Replay + 1) old new
 HasReadAll Check old new = HasGiven (limit_of Check + 1) old new
+HasReadAll Migrate old new = HasGiven (limit_of Migrate + 1) old new
 HasReadAll (Run cores) old new = HasGiven (limit_of (Run cores) + 1) old new
 HasReadAll (Soak number) old new = new ≡ old
 
@@ -129,16 +139,22 @@ MayRun (Ok scenario) Spent = Unit {0}
 MayRun (Err refused) Refused = Unit {0}
 MayRun said status = ⊥
 
--- an input is the text of a scenario and of a trace in form
-abbrev pub IsTrace : List ℕ → Type 0
-IsTrace input = (s : Content) × (t : Trace) × IsTraceOf input s t
+-- an input is the text of a scenario and of a trace in form, in one of these formats
+abbrev pub IsTrace : Formats → List ℕ → Type 0
+IsTrace formats input = (f : Format) × (s : Content) × (t : Trace) × IsTraceOf formats f input s t
 
 -- the statuses of a check that can come for an input: whether the trace is lawful where there is one, else a refusal
 abbrev pub MayCheck : List ℕ → Status → Type 0
-MayCheck input Success = IsTrace input
-MayCheck input Unlawful = IsTrace input
-MayCheck input Refused = IsTrace input → ⊥
+MayCheck input Success = IsTrace Both input
+MayCheck input Unlawful = IsTrace Both input
+MayCheck input Refused = IsTrace Both input → ⊥
 MayCheck input status = ⊥
+
+-- the statuses of `migrate` that can come for an input: success where there is a trace in format 1, else a refusal
+abbrev pub MayMigrate : List ℕ → Status → Type 0
+MayMigrate input Success = IsTrace First input
+MayMigrate input Refused = IsTrace First input → ⊥
+MayMigrate input status = ⊥
 
 -- the statuses of a soak that can come: as the run ended
 abbrev pub MaySoak : Status → Type 0
@@ -154,6 +170,7 @@ MayEnd form input WriteFault = Unit {0}
 MayEnd form input NoMemory = Unit {0}
 MayEnd Replay input status = MayRun (scenario_of input) status
 MayEnd Check input status = MayCheck input status
+MayEnd Migrate input status = MayMigrate input status
 MayEnd (Run cores) input status = MayRun (scenario_of input) status
 MayEnd (Soak number) input status = MaySoak status
 

@@ -11,7 +11,7 @@ use std::alloc::Global;
 use zk_base::{NoMemory, Status, put, put_decimal};
 use zk_check::{Checked, Fail, check};
 use zk_scenario::{Scenario, ScenarioRefused, Why, read_scenario};
-use zk_trace::{TraceRefused, line_count, read_trace, split_text};
+use zk_trace::{Formats, TraceRefused, line_count, read_trace, split_text};
 
 /// The whole output of `check` for this input, and the status that goes with it.
 pub fn check_output(alloc: Global, input: Vec<u8>) -> Result<(Vec<u8>, Status), NoMemory>
@@ -42,7 +42,7 @@ fn checked(
     ensures { IfOk result (λ made. IsCheckOutput made.1 (front.now ++ trace.now) made.0.items) }
 {
     let first_line = line_count(front) as u32 + 1;
-    match read_trace(alloc, scenario, trace, first_line) {
+    match read_trace(alloc, scenario, Formats::Both, trace, first_line) {
         Ok(trace) => said(alloc, check(alloc, scenario, &trace)?),
         Err(TraceRefused::At(line)) => Ok((trace_refusal(alloc, line)?, Status::Refused)),
         Err(TraceRefused::NoMemory) => Err(NoMemory),

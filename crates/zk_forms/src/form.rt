@@ -14,6 +14,8 @@ pub enum Form {
     Replay,
     /// `check`: reads what `replay` prints, and says whether the trace is lawful for its scenario.
     Check,
+    /// `migrate`: reads what `replay` printed in format 1, and prints it in format 2.
+    Migrate,
     /// `soak N`: plays the generated scenario of this number, checks the trace, and prints one line. It reads nothing.
     Soak(u32),
     /// `run N`: reads a scenario, plays it on that many cores, from 1 to 16, and prints its text and the trace.
@@ -30,6 +32,7 @@ pub fn form_of(words: &[String]) -> Option<Form>
     match words {
         [word] if word.as_bytes() == b"replay".as_slice() => Some(Form::Replay),
         [word] if word.as_bytes() == b"check".as_slice() => Some(Form::Check),
+        [word] if word.as_bytes() == b"migrate".as_slice() => Some(Form::Migrate),
         [word, number] if word.as_bytes() == b"soak".as_slice() => soak_of(number.as_bytes()),
         _ => None,
     }
@@ -63,7 +66,7 @@ pub fn needs_cores(words: &[String]) -> bool
     }
 }
 
-/// The longest input of `check`, in bytes.
+/// The longest input of `check` and of `migrate`, in bytes.
 pub const LONGEST_TRACE: usize = 536_870_912;
 
 /// The longest input of a form, in bytes. `soak` reads none.
@@ -73,6 +76,7 @@ pub fn limit_of(form: Form) -> usize
     match form {
         Form::Replay => LONGEST_SCENARIO,
         Form::Check => LONGEST_TRACE,
+        Form::Migrate => LONGEST_TRACE,
         Form::Soak(_) => 0,
         Form::Run(_) => LONGEST_SCENARIO,
     }

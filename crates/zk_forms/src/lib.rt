@@ -7,6 +7,7 @@ mod check;
 mod form;
 mod input;
 mod meaning;
+mod migrate;
 mod output;
 mod soak;
 
@@ -15,5 +16,6 @@ pub use check::{check_output, trace_refusal};
 pub use form::{Form, LONGEST_TRACE, cores_of, form_of, limit_of, needs_cores};
 pub use input::{NoInput, read_input};
 pub use meaning::has_one_meaning;
+pub use migrate::migrate_output;
 pub use output::{refuse_words, write_made, write_text};
 pub use soak::soak_output;

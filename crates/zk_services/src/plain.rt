@@ -21,9 +21,11 @@ use zk_poll::Signal;
 use zk_sem::Sem;
 use zk_subq::Observer;
 use zk_time::Clock;
-use zk_trace::History;
 use zk_work::Work;
 use zk_worker::{Services, Step, StepReply};
+
+/// What a service did, oldest first.
+pub type History<O, R> = Listed<Entry<O, R>>;
 
 /// All entries of each service, the oldest first.
 #[derive(Drop)]

@@ -7,6 +7,7 @@ use Rattle.zk_base.specs.Causes.{Rose}
 use Rattle.zk_base.specs.declared.errors.Status.{Status}
 use Rattle.zk_base.specs.declared.errors.Status.TheVariants.{Success, Words, Refused, Stuck, Spent, ReadFault, WriteFault, NoMemory, Unlawful}
 use Rattle.zk_scenario.specs.Content.{Content}
+use Rattle.zk_trace.specs.declared.format.Format.{Format}
 use Rattle.zk_trace.specs.declared.trace.Trace.{Trace}
 use Rattle.zk_forms.specs.declared.form.TheConstants.{LONGEST_TRACE}
 use Rattle.zk_forms.specs.Input.{HasRead}
@@ -33,9 +34,9 @@ said view NoMemory input output is = absurd is
 said view Unlawful input output is = absurd is
 
 -- an input above the limit has no run
-pub never-long : (front : List ℕ) (s : Content) (t : Trace) → LONGEST_TRACE < length front → IsRunOf front s t → ⊥
-never-long front s t long (traced given) = absurd (omega (arith, long, given.short))
-never-long front s t long (played short read run) = absurd (omega (arith, long, short))
+pub never-long : (front : List ℕ) (f : Format) (s : Content) (t : Trace) → LONGEST_TRACE < length front → IsRunOf front s t f → ⊥
+never-long front f s t long (traced g given) = absurd (omega (arith, long, given.short))
+never-long front f s t long (played short read run) = absurd (omega (arith, long, short))
 
 told-long : (front input output : List ℕ) → LONGEST_TRACE < length front → LONGEST_TRACE < length input → IsToldWhy front output → IsToldWhy input output
 told-long front input output long more (too_long above says) = too_long more says
@@ -44,9 +45,9 @@ told-long front input output long more (no_trace f t s line within parts behind 
 
 shown-long : (view : View) (status : Status) (front input output : List ℕ) → LONGEST_TRACE < length front → LONGEST_TRACE < length input → IsShown view status front output →
     IsShown view status input output
-shown-long view Success front input output long more is = absurd (never-long front is.s is.t long is.run)
+shown-long view Success front input output long more is = absurd (never-long front is.f is.s is.t long is.run)
 shown-long view Refused front input output long more is = record {
-  never = λ s t run. never-long input s t more run;
+  never = λ f s t run. never-long input f s t more run;
   why_so = told-long front input output long more is.why_so;
 }
 shown-long view Words front input output long more is = absurd is

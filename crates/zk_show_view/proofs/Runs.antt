@@ -9,12 +9,15 @@ use Rattle.zk_scenario.specs.declared.refused.ScenarioRefused.TheVariants.{At}
 use Rattle.zk_scenario.specs.declared.refused.Why.{Why}
 use Rattle.zk_scenario.specs.declared.refused.Why.TheVariants as reasons
 use Rattle.zk_scenario.proofs.ReadText.{text_of-read}
+use Rattle.zk_trace.specs.declared.format.Format.{Format}
+use Rattle.zk_trace.specs.declared.format.Format.TheVariants.{Two}
+use Rattle.zk_trace.specs.declared.format.Formats.TheVariants.{Both}
 use Rattle.zk_trace.specs.declared.trace.Trace.{Trace}
 use Rattle.zk_trace.specs.Form.{IsInForm}
 use Rattle.zk_trace.specs.Parting.{AreParts}
 use Rattle.zk_trace.specs.Feeds.{lines_in}
 use Rattle.zk_trace.specs.Text.{trace_text}
-use Rattle.zk_trace.specs.TraceRead.{IsRefusedAt}
+use Rattle.zk_trace.specs.TraceRead.{IsReadIn, IsWritten, IsRefusedAt}
 use Rattle.zk_trace.proofs.TraceParts.{one-parting, run-parts}
 use Rattle.zk_show_why.specs.Refusal.{refusal_head}
 use Rattle.zk_forms.specs.declared.form.TheConstants.{LONGEST_TRACE}
@@ -25,12 +28,13 @@ use Rattle.zk_show_view.specs.Shown.{IsRunOf, traced, played, IsViewOf, IsView, 
 use Rattle.zk_show_view.proofs.Outcomes.{never-long}
 
 -- a view of a trace that was read of the two parts
-pub traced-view : (view : View) (s : Content) (t : Trace) (front trace output : List ℕ) → scenario_of front ≡ Ok s → front ≡ text_of s → trace ≡ trace_text s t → IsInForm s t →
-    length (front ++ trace) ≤ LONGEST_TRACE → IsViewOf view s t output → IsView view (front ++ trace) output
-traced-view view s t front trace output read spelled same form short shows = record {
+pub traced-view : (view : View) (f : Format) (s : Content) (t : Trace) (front trace output : List ℕ) → scenario_of front ≡ Ok s → front ≡ text_of s → IsWritten Both s f t →
+    trace ≡ trace_text f s t → length (front ++ trace) ≤ LONGEST_TRACE → IsViewOf view f s t output → IsView view (front ++ trace) output
+traced-view view f s t front trace output read spelled written same short shows = record {
+  f = f;
   s = s;
   t = t;
-  run = traced (trace-of s t front trace read spelled same form short);
+  run = traced f (trace-of Both f s t front trace read spelled written same short);
   shows = shows;
 }
 
@@ -40,23 +44,23 @@ played-parts : (input : List ℕ) (s : Content) (t : Trace) → scenario_of inpu
 played-parts input s t read =
     let is : input ≡ text_of s = text_of-read input s read in
     let good : scenario_of (text_of s) ≡ Ok s = ap scenario_of (sym is) ∙ read in
-    (record { whole = is ∙ sym (append-nil (text_of s)); before = (run-parts s t good).before; begins = inl refl }, good)
+    (record { whole = is ∙ sym (append-nil (text_of s)); before = (run-parts Two s t good).before; begins = inl refl }, good)
 
 -- the parts of an input that has a run: the scenario's text, and a trace or nothing behind it
-parts-of : (input : List ℕ) (s : Content) (t : Trace) → IsRunOf input s t →
+parts-of : (input : List ℕ) (f : Format) (s : Content) (t : Trace) → IsRunOf input s t f →
     (trace : List ℕ) × AreParts input (text_of s) trace × (scenario_of (text_of s) ≡ Ok s)
-parts-of input s t (traced given) = (
-  trace_text s t,
-  subst (λ (x : List ℕ). AreParts x (text_of s) (trace_text s t)) (sym given.text) (run-parts s t given.scenario),
+parts-of input f s t (traced g given) = (
+  trace_text g s t,
+  subst (λ (x : List ℕ). AreParts x (text_of s) (trace_text g s t)) (sym given.text) (run-parts g s t given.scenario),
   given.scenario,
 )
-parts-of input s t (played short read run) = let it = played-parts input s t read in ([], it.0, it.1)
+parts-of input f s t (played short read run) = let it = played-parts input s t read in ([], it.0, it.1)
 
 -- what is told of an input above the limit
 pub told-long : (input told : List ℕ) → LONGEST_TRACE < length input → StaysInFront (refusal_head 0 reasons.Length) told →
     HasNoRun input told
 told-long input told long says = record {
-  never = λ s t run. never-long input s t long run;
+  never = λ f s t run. never-long input f s t long run;
   why_so = too_long long says;
 }
 
@@ -64,8 +68,8 @@ told-long input told long says = record {
 pub told-refused : (input front trace told : List ℕ) (line : ℕ) (why : Why) → length input ≤ LONGEST_TRACE → AreParts input front trace → scenario_of front ≡ Err (At line why) →
     StaysInFront (refusal_head line why) told → HasNoRun input told
 told-refused input front trace told line why short parts read says = record {
-  never = λ s t run.
-      let it = parts-of input s t run in
+  never = λ f s t run.
+      let it = parts-of input f s t run in
       let same = one-parting input front trace (text_of s) it.0 parts it.1 in
       let both = sym read ∙ ap scenario_of same.0 ∙ it.2 in
       absurd (cc);
@@ -75,15 +79,15 @@ told-refused input front trace told line why short parts read says = record {
 -- what is told of a trace part that is refused
 pub told-trace : (front trace told : List ℕ) (s : Content) (line : ℕ) → scenario_of front ≡ Ok s → AreParts (front ++ trace) front trace →
     length (front ++ trace) ≤ LONGEST_TRACE → 0 < length trace →
-    ((t : Trace) → IsInForm s t → trace ≡ trace_text s t → ⊥) → IsRefusedAt s trace (1 + length (lines_in front)) line →
+    ((f : Format) (t : Trace) → IsReadIn Both s f → IsInForm s t → trace ≡ trace_text f s t → ⊥) → IsRefusedAt Both s trace (1 + length (lines_in front)) line →
     told ≡ trace_refused line → HasNoRun (front ++ trace) told
 told-trace front trace told s line read parts short behind none refused says = record {
   never = never;
   why_so = no_trace front trace s line short parts behind read refused says;
 } where
-  never : (other : Content) (t : Trace) → IsRunOf (front ++ trace) other t → ⊥
-  never other t (traced given) = (trace-refused front trace told s line read parts short none refused says).never other t given
-  never other t (played within whole run) =
+  never : (f : Format) (other : Content) (t : Trace) → IsRunOf (front ++ trace) other t f → ⊥
+  never f other t (traced g given) = (trace-refused Both front trace told s line read parts short none refused says).never g other t given
+  never f other t (played within whole run) =
       let it = played-parts (front ++ trace) other t whole in
       let same = one-parting (front ++ trace) front trace (text_of other) [] parts it.0 in
       omega (arith, behind, ap length same.1)

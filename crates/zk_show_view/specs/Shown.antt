@@ -12,6 +12,9 @@ use Rattle.zk_scenario.specs.Spelling.{text_of}
 use Rattle.zk_scenario.specs.declared.refused.ScenarioRefused.TheVariants.{At}
 use Rattle.zk_scenario.specs.declared.refused.Why.{Why}
 use Rattle.zk_scenario.specs.declared.refused.Why.TheVariants as reasons
+use Rattle.zk_trace.specs.declared.format.Format.{Format}
+use Rattle.zk_trace.specs.declared.format.Format.TheVariants.{Two}
+use Rattle.zk_trace.specs.declared.format.Formats.TheVariants.{Both}
 use Rattle.zk_trace.specs.declared.trace.Trace.{Trace}
 use Rattle.zk_trace.specs.Feeds.{lines_in}
 use Rattle.zk_trace.specs.Parting.{AreParts}
@@ -31,33 +34,34 @@ use Rattle.zk_forms.specs.Top.{Prints}
 use Rattle.zk_show_view.specs.declared.view.View.{View}
 use Rattle.zk_show_view.specs.declared.view.View.TheVariants as views
 
--- the run of an input: the trace behind its scenario, or of a scenario alone that by round robin
-pub data IsRunOf (input : List ℕ) (s : Content) (t : Trace) : Type 0 where
-  traced : IsTraceOf input s t → IsRunOf input s t
-  played : length input ≤ LONGEST_TRACE → scenario_of input ≡ Ok s → IsReplay s t → IsRunOf input s t
+-- the run of an input, and the format of its trace: the trace behind its scenario, or of a scenario alone that by round robin
+pub data IsRunOf (input : List ℕ) (s : Content) (t : Trace) : Format → Type 0 where
+  traced : (f : Format) → IsTraceOf Both f input s t → IsRunOf input s t f
+  played : length input ≤ LONGEST_TRACE → scenario_of input ≡ Ok s → IsReplay s t → IsRunOf input s t Two
 
 -- the number of the line in which the trace begins, behind the text of its scenario
 abbrev pub trace_line : Content → ℕ
 trace_line s = length (lines_in (text_of s)) + 1
 
 -- the chart of a trace, with the lines of its text
-abbrev pub IsItsChart : Content → Trace → Chart → Type 0
-IsItsChart s t chart = IsChart s t (trace_text s t) (trace_line s) chart
+abbrev pub IsItsChart : Format → Content → Trace → Chart → Type 0
+IsItsChart f s t chart = IsChart s t (trace_text f s t) (trace_line s) chart
 
 -- a view of a trace: its chart in lines with why it ended so below, its chart as a picture, or why it ended so alone
-abbrev pub IsViewOf : View → Content → Trace → List ℕ → Type 0
-IsViewOf views.Text s t output =
-    (chart : Chart) × IsItsChart s t chart × TellsWhy s.decls t (chart_text s.decls chart) output
-IsViewOf views.Svg s t output =
-    (chart : Chart) × IsItsChart s t chart × IsPicture (length (players s.decls)) chart output
-IsViewOf views.Why s t output = TellsWhy s.decls t [] output
+abbrev pub IsViewOf : View → Format → Content → Trace → List ℕ → Type 0
+IsViewOf views.Text f s t output =
+    (chart : Chart) × IsItsChart f s t chart × TellsWhy s.decls t (chart_text s.decls chart) output
+IsViewOf views.Svg f s t output =
+    (chart : Chart) × IsItsChart f s t chart × IsPicture (length (players s.decls)) chart output
+IsViewOf views.Why f s t output = TellsWhy s.decls t [] output
 
 -- a view of the run of an input
 pub record IsView (view : View) (input output : List ℕ) : Type 0 where
+  pub f : Format
   pub s : Content
   pub t : Trace
-  pub run : IsRunOf input s t
-  pub shows : IsViewOf view s t output
+  pub run : IsRunOf input s t f
+  pub shows : IsViewOf view f s t output
 
 -- why an input has no run: it is too long, its front is refused as a scenario, or a line behind that can't stand in a trace
 pub data IsToldWhy (input output : List ℕ) : Type 0 where
@@ -66,12 +70,12 @@ pub data IsToldWhy (input output : List ℕ) : Type 0 where
       scenario_of front ≡ Err (At line reason) → StaysInFront (refusal_head line reason) output → IsToldWhy input output
   no_trace : (front trace : List ℕ) (s : Content) (line : ℕ) → length input ≤ LONGEST_TRACE → AreParts input front trace →
       0 < length trace →
-      scenario_of front ≡ Ok s → IsRefusedAt s trace (1 + length (lines_in front)) line → output ≡ trace_refused line →
+      scenario_of front ≡ Ok s → IsRefusedAt Both s trace (1 + length (lines_in front)) line → output ≡ trace_refused line →
       IsToldWhy input output
 
 -- an input has no run, and is told why
 pub record HasNoRun (input output : List ℕ) : Type 0 where
-  pub never : (s : Content) (t : Trace) → IsRunOf input s t → ⊥
+  pub never : (f : Format) (s : Content) (t : Trace) → IsRunOf input s t f → ⊥
   pub why_so : IsToldWhy input output
 
 -- the whole output that goes with a status, for an input

@@ -4,6 +4,7 @@ ghost use Rattle.zk_base.specs.Causes.{Rose};
 ghost use Rattle.zk_base.specs.Fronts.{StaysInFront};
 ghost use Rattle.zk_scenario.specs.Grammar.{scenario_of};
 ghost use Rattle.zk_scenario.specs.Spelling.{text_of};
+ghost use Rattle.zk_trace.specs.declared.format.Format.{Format};
 ghost use Rattle.zk_trace.specs.Form.{IsInForm};
 ghost use Rattle.zk_trace.specs.Parting.{AreParts};
 ghost use Rattle.zk_trace.specs.Text.{trace_text};
@@ -27,7 +28,7 @@ use zk_show_chart::chart_of;
 use zk_show_svg::put_svg;
 use zk_show_text::put_text;
 use zk_show_why::{put_refusal, put_why};
-use zk_trace::{Trace, TraceRefused, line_count, put_trace, read_trace, split_text};
+use zk_trace::{Formats, Trace, TraceRefused, line_count, put_trace, read_trace, split_text};
 
 /// The program `zk_show` over any source and any sink: it reads a scenario with a trace behind it, as `replay` and `run` print
 /// it, and shows the run. A scenario alone is played by round robin first.
@@ -194,7 +195,7 @@ fn traced(
     ensures { IfOk result (λ made. IsShown view made.1 (front.now ++ text.now) made.0.items) }
 {
     let first_line = line_count(front) as u32 + 1;
-    match read_trace(alloc, scenario, text, first_line) {
+    match read_trace(alloc, scenario, Formats::Both, text, first_line) {
         Ok(trace) => {
             let output = view_of_run(alloc, view, scenario, &trace, text, first_line)?;
             Ok((output, Status::Success))
@@ -214,9 +215,9 @@ fn view_of_run(
     first_line: u32,
 ) -> Result<Vec<u8>, NoMemory>
     requires form { IsInForm scenario.now trace.now }
-    requires text { text.now ≡ trace_text scenario.now trace.now }
     requires first { first_line ≡ trace_line scenario.now }
-    ensures { IfOk result (λ output. IsViewOf view scenario.now trace.now output.items) }
+    ensures { (f : Format) → text.now ≡ trace_text f scenario.now trace.now →
+        IfOk result (λ output. IsViewOf view f scenario.now trace.now output.items) }
 {
     match view {
         View::Text => text_of_run(alloc, scenario, trace, text, first_line),
@@ -234,9 +235,9 @@ fn text_of_run(
     first_line: u32,
 ) -> Result<Vec<u8>, NoMemory>
     requires form { IsInForm scenario.now trace.now }
-    requires text { text.now ≡ trace_text scenario.now trace.now }
     requires first { first_line ≡ trace_line scenario.now }
-    ensures { IfOk result (λ output. IsViewOf views.Text scenario.now trace.now output.items) }
+    ensures { (f : Format) → text.now ≡ trace_text f scenario.now trace.now →
+        IfOk result (λ output. IsViewOf views.Text f scenario.now trace.now output.items) }
 {
     let chart = chart_of(alloc, scenario, trace, text, first_line)?;
     let mut out = Vec::new(alloc);
@@ -254,9 +255,9 @@ fn svg_of_run(
     first_line: u32,
 ) -> Result<Vec<u8>, NoMemory>
     requires form { IsInForm scenario.now trace.now }
-    requires text { text.now ≡ trace_text scenario.now trace.now }
     requires first { first_line ≡ trace_line scenario.now }
-    ensures { IfOk result (λ output. IsViewOf views.Svg scenario.now trace.now output.items) }
+    ensures { (f : Format) → text.now ≡ trace_text f scenario.now trace.now →
+        IfOk result (λ output. IsViewOf views.Svg f scenario.now trace.now output.items) }
 {
     let notes = why_of_run(alloc, scenario, trace)?;
     let chart = chart_of(alloc, scenario, trace, text, first_line)?;
@@ -267,7 +268,7 @@ fn svg_of_run(
 
 /// Why a run ended so, in sentences.
 fn why_of_run(alloc: Global, scenario: &Scenario, trace: &Trace) -> Result<Vec<u8>, NoMemory>
-    ensures { IfOk result (λ output. IsViewOf views.Why scenario.now trace.now output.items) }
+    ensures { (f : Format) → IfOk result (λ output. IsViewOf views.Why f scenario.now trace.now output.items) }
 {
     let mut out = Vec::new(alloc);
     put_why(&mut out, scenario, trace)?;

@@ -21,7 +21,7 @@ fn attempts_are_made_by_hand(rt: HostRuntime) -> Result<(), Fail> {
         report.moves.as_slice() == b"ynnyyy".as_slice()
             && report.stand.as_slice() == b"tt".as_slice()
     );
-    assert!(rt; has(&report.text, b"player taker done\n1 take = 0\n"));
+    assert!(rt; has(&report.text, b"player taker done 1\n1 take = 0\n"));
     Ok(())
 }
 
@@ -31,7 +31,7 @@ fn a_raise_is_seen_by_another_caller(rt: HostRuntime) -> Result<(), Fail> {
     let moves = [Move::Quick(0, 0), Move::Quick(1, 0), Move::Quick(0, 0)];
     let report = played(&rt, rt.alloc(), raised(), &moves)?;
     assert!(rt; report.moves.as_slice() == b"yyn".as_slice());
-    assert!(rt; has(&report.text, b"player second done\n0 check = raised 7\n"));
+    assert!(rt; has(&report.text, b"player second done 1\n0 check = raised 7\n"));
     Ok(())
 }
 
@@ -43,7 +43,7 @@ fn a_player_that_is_spent_stops(rt: HostRuntime) -> Result<(), Fail> {
         report.moves.as_slice() == b"s".as_slice() && report.stand.as_slice() == b"o".as_slice()
     );
     assert!(rt; report.steps.as_slice() == [20_000].as_slice());
-    assert!(rt; has(&report.text, b"zt 1\nspent\n"));
+    assert!(rt; has(&report.text, b"zt 2\nspent\n"));
     Ok(())
 }
 

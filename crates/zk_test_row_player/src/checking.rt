@@ -1,4 +1,5 @@
 use crate::changes::{Change, change_of, changed_at, pieces_of};
+use crate::migrating::put_other_verdict;
 use crate::play::{Played, play};
 use crate::reading::{feeds_in, line_behind, with_line};
 use std::alloc::Global;
@@ -67,7 +68,7 @@ pub fn put_unlawful(alloc: Global, out: &mut Vec<u8>, output: &[u8]) -> Result<(
 ///     X; Y         changed by X, and then by Y
 ///
 /// The first four are each tried everywhere: how often `check` says what, and where it says `lawful`, the line that stands
-/// there then.
+/// there then. Where it says something else of what `migrate` makes of the changed trace, that stands there too.
 pub fn put_checks(
     alloc: Global,
     out: &mut Vec<u8>,
@@ -87,7 +88,8 @@ pub fn put_checks(
     put(out, line_said(&sink))?;
     put(out, b": ")?;
     put(out, change.as_bytes())?;
-    put(out, b"\n")
+    put(out, b"\n")?;
+    put_other_verdict(alloc, out, text, &changed, &sink)
 }
 
 /// What `check` prints of a trace part behind a text.
@@ -119,6 +121,7 @@ fn put_each_check(
     for (place, piece) in pieces.iter().enumerate() {
         if let Some(changed) = changed_at(alloc, &pieces, change, place)? {
             let sink = checked(alloc, text, &changed)?;
+            put_other_verdict(alloc, out, text, &changed, &sink)?;
             let verdict = verdict_of(line_said(&sink));
             if verdict == Some(Verdict::Lawful) {
                 put_lawful(&mut lawful, line_behind(text), line, &changed)?;

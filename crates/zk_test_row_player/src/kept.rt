@@ -3,7 +3,7 @@ use std::alloc::Global;
 use std::fmt::{Debug, Write};
 use zk_base::{Entry, NoMemory, put};
 use zk_scenario::read_scenario;
-use zk_trace::{Histories, Trace, read_trace, split_text};
+use zk_trace::{Formats, Histories, Trace, read_trace, split_text};
 
 /// What is kept of the trace that stands in a text: each entry, look and answer, and whether all is printed as it stands.
 pub fn put_kept(alloc: Global, out: &mut Vec<u8>, text: &[u8]) -> Result<(), NoMemory> {
@@ -12,7 +12,7 @@ pub fn put_kept(alloc: Global, out: &mut Vec<u8>, text: &[u8]) -> Result<(), NoM
         return put(out, b"no scenario\n");
     };
     let first = line_behind(front);
-    if let Ok(trace) = read_trace(alloc, &scenario, behind, first) {
+    if let Ok(trace) = read_trace(alloc, &scenario, Formats::Both, behind, first) {
         put(out, lines_of(alloc, &trace)?.as_bytes())?;
     }
     put_came(out, read_again(alloc, &scenario, behind, first)?)?;
@@ -23,13 +23,13 @@ pub fn put_kept(alloc: Global, out: &mut Vec<u8>, text: &[u8]) -> Result<(), NoM
 fn lines_of(alloc: Global, trace: &Trace) -> Result<String, NoMemory> {
     let mut text = String::new(alloc);
     put_entries(&mut text, trace.work.items())?;
-    put_all(&mut text, trace.item_looks.items())?;
+    put_all(&mut text, trace.looks.items.items())?;
     put_entries(&mut text, trace.clock.items())?;
     put_entries(&mut text, trace.table.items())?;
     put_histories(&mut text, &trace.sems)?;
     put_histories(&mut text, &trace.msgqs)?;
     put_histories(&mut text, &trace.signals)?;
-    for looks in trace.signal_looks.items() {
+    for looks in trace.looks.signals.items() {
         put_all(&mut text, looks.items())?;
     }
     put_histories(&mut text, &trace.chans)?;

@@ -4,7 +4,10 @@
 
 mod changes;
 mod checking;
+mod counts;
+mod format_one;
 mod kept;
+mod migrating;
 mod play;
 mod reading;
 mod rows;

@@ -1,8 +1,10 @@
+use crate::counts::put_counts;
+use crate::format_one::{FIRST_ONE, in_format_one};
 use crate::spelled::put_spelled;
 use std::alloc::Global;
 use zk_base::{NoMemory, put, put_decimal};
 use zk_scenario::{Scenario, read_scenario};
-use zk_trace::{TraceRefused, put_trace, read_trace};
+use zk_trace::{Formats, TraceRefused, put_trace, read_trace};
 
 /// What stands in place of each byte of a trace.
 const BYTES: [u8; 8] = *b"\n 01a.=-";
@@ -18,17 +20,20 @@ pub enum Reading {
     At(u32),
 }
 
-/// Reads a trace part behind a scenario, whose first line has this number, and prints it again.
+/// Reads a trace part behind a scenario, whose first line has this number, and prints it again, in its format.
 pub fn read_again(
     alloc: Global,
     scenario: &Scenario,
     behind: &[u8],
     first: u32,
 ) -> Result<Reading, NoMemory> {
-    match read_trace(alloc, scenario, behind, first) {
+    match read_trace(alloc, scenario, Formats::Both, behind, first) {
         Ok(trace) => {
             let mut out = Vec::new(alloc);
             put_trace(&mut out, scenario, &trace)?;
+            if behind.starts_with(FIRST_ONE) {
+                out = in_format_one(alloc, &out)?;
+            }
             Ok(if out.as_slice() == behind {
                 Reading::Same
             } else {
@@ -64,6 +69,7 @@ pub fn is_read_again(alloc: Global, text: &[u8], behind: &[u8]) -> Result<bool, 
 ///
 ///     cuts     without its last line, its last two lines, and so on: the line that each is refused at
 ///     bytes    with another byte in place of each: how many are refused, and how many read
+///     counts   with a count of a head one more and one less: the line that each is refused at
 ///     N LINE   with this line in place of the line of this number, or with these, where `\n` stands between them
 ///     N        without the line of this number
 pub fn put_readings(
@@ -80,6 +86,7 @@ pub fn put_readings(
     match change {
         "cuts" => put_cuts(alloc, out, &scenario, behind, first)?,
         "bytes" => put_bytes(alloc, out, &scenario, behind, first)?,
+        "counts" => return put_counts(alloc, out, &scenario, behind, first),
         _ => put_changed(alloc, out, &scenario, behind, first, change)?,
     }
     put(out, b"\n")
@@ -162,7 +169,7 @@ fn put_bytes(
 }
 
 /// These lines with others in place of the one of this number, where the first has the number `first`.
-fn with_lines(
+pub fn with_lines(
     alloc: Global,
     behind: &[u8],
     first: u32,

@@ -17,13 +17,13 @@ const GIVES: &str =
 
 /// The trace where the first player is through before the second begins. By round robin both counts are answered 2.
 const FIRST_FIRST: &str =
-    "zt 1\nended\nservice s0\nt0.0 give = ok\nt0.1 count = 1\nt1.0 give = ok\nt1.1 count = 2\n\
-     player t0 done\n0 give = 0\n1 count = 1\nplayer t1 done\n0 give = 0\n1 count = 2\n";
+    "zt 2\nended\nservice s0 4 0\nt0.0 give = ok\nt0.1 count = 1\nt1.0 give = ok\nt1.1 count = 2\n\
+     player t0 done 2\n0 give = 0\n1 count = 1\nplayer t1 done 2\n0 give = 0\n1 count = 2\n";
 
 /// The same with the players exchanged.
 const SECOND_FIRST: &str =
-    "zt 1\nended\nservice s0\nt1.0 give = ok\nt1.1 count = 1\nt0.0 give = ok\nt0.1 count = 2\n\
-     player t0 done\n0 give = 0\n1 count = 2\nplayer t1 done\n0 give = 0\n1 count = 1\n";
+    "zt 2\nended\nservice s0 4 0\nt1.0 give = ok\nt1.1 count = 1\nt0.0 give = ok\nt0.1 count = 2\n\
+     player t0 done 2\n0 give = 0\n1 count = 2\nplayer t1 done 2\n0 give = 0\n1 count = 1\n";
 
 /// A gate is held for so many turns at the most.
 const MOST_TURNS: u64 = 20_000_000;

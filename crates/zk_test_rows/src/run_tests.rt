@@ -16,8 +16,8 @@ const FRONT: &str =
 const ONE_SUBMISSION: &str = "script t0\nsubmit w0 q0\nend\n";
 
 const ITS_TRACE: &str =
-    "zt 1\nended\nservice work\nt0.0 submit w0 q0 = 1 a0 q0\nq0.0 begin q0 = w0 a0\n\
-     q0.1 end q0 = ok\nplayer t0 done\n0 submit = 1\nplayer t1 done\nplayer q0 done\n";
+    "zt 2\nended\nservice work 3 0\nt0.0 submit w0 q0 = 1 a0 q0\nq0.0 begin q0 = w0 a0\n\
+     q0.1 end q0 = ok\nplayer t0 done 1\n0 submit = 1\nplayer t1 done 0\nplayer q0 done 0\n";
 
 /// More room than its output needs.
 const ROOM: usize = 8192;

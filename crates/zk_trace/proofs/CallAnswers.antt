@@ -9,13 +9,8 @@ use Rattle.zk_line.specs.declared.types.Call.TheVariants as calls
 use Rattle.zk_line.specs.declared.types.Decl.{Decl}
 use Rattle.zk_words.specs.declared.word.Word.{Word}
 use Rattle.zk_words.specs.declared.word.Word.TheVariants as words
-use Rattle.zk_model_bus.specs.declared.channel.ChanReply.{ChanReply}
-use Rattle.zk_model_bus.specs.declared.observer.ObsReply.{ObsReply}
-use Rattle.zk_model_bus.specs.declared.table.TableReply.{TableReply}
 use Rattle.zk_model_wait.specs.declared.clock.ClockOp.TheVariants as clock_ops
-use Rattle.zk_model_wait.specs.declared.msgq.MsgqReply.{MsgqReply}
 use Rattle.zk_model_wait.specs.declared.msgq.MsgqReply.TheVariants as msgq_replies
-use Rattle.zk_model_wait.specs.declared.sem.SemReply.{SemReply}
 use Rattle.zk_model_wait.specs.declared.sem.SemReply.TheVariants as sem_replies
 use Rattle.zk_model_wait.specs.declared.signal.SignalOp.{SignalOp}
 use Rattle.zk_model_wait.specs.declared.signal.SignalOp.TheVariants as signal_ops

@@ -85,19 +85,19 @@ module _ (s : Content) (t : Trace) (placed : IsPlaced s t)
       subst Known (sym is)
       (ap (λ (n : ℕ). option_and_then (λ (log : Log). slice_get log.steps k) (slice_get t.logs n)) (begin number) ∙ ap (option_and_then (λ (log : Log). slice_get log.steps k)) at ∙ there)
 
-  items-known : AllByRecursion Known (map item_look_stood t.item_looks)
+  items-known : AllByRecursion Known (map item_look_stood t.looks.items)
   items-known =
-      mapped-each Known item_look_stood t.item_looks
+      mapped-each Known item_look_stood t.looks.items
       (subst (AllByRecursion (λ l. Known (item_look_stood l))) (sym placed.item_looks)
       (logs-each item_look_at item_step item-own (λ l. Known (item_look_stood l)) 0 t.logs
       (λ number log k spot l at there is. look-known number log k spot (item_look_stood l) at there (item-law (0 + number) k spot l is))))
 
-  signals-known : AllByRecursion Known (signals_stood t.signal_looks 0 t.signals)
+  signals-known : AllByRecursion Known (signals_stood t.looks.signals 0 t.signals)
   signals-known =
-      signals-each Known t.signal_looks 0 t.signals
+      signals-each Known t.looks.signals 0 t.signals
       (λ o p e there. placed.each (spots.Signal (0 + o) p) e.who.number e.step (ap (λ (n : ℕ). option_map single.step_of (entry_at t.signals n p)) (begin o) ∙ ap (option_map single.step_of) there))
       (λ o within.
-      let same : looks_at t.signal_looks (0 + o) ≡ all_looks (signal_look_at (0 + o)) 0 t.logs =
+      let same : looks_at t.looks.signals (0 + o) ≡ all_looks (signal_look_at (0 + o)) 0 t.logs =
       ap (λ (ls : List (List SignalLook)). looks_at ls (0 + o)) placed.signal_looks ∙ looks-at (length t.signals) t.logs (0 + o) (let it = begin o in omega arith) in
       subst (AllByRecursion (λ l. Known (signal_look_stood (0 + o) l))) (sym same)
       (logs-each (signal_look_at (0 + o)) signal_step (signal-own (0 + o)) (λ l. Known (signal_look_stood (0 + o) l)) 0 t.logs
@@ -109,7 +109,7 @@ module _ (s : Content) (t : Trace) (placed : IsPlaced s t)
   works = entries_stood homes.Work 0 t.work
 
   abbrev items : List Stood
-  items = map item_look_stood t.item_looks
+  items = map item_look_stood t.looks.items
 
   abbrev clocks : List Stood
   clocks = entries_stood homes.Clock 0 t.clock
@@ -124,7 +124,7 @@ module _ (s : Content) (t : Trace) (placed : IsPlaced s t)
   msgqs = histories_stood families.Msgq 0 t.msgqs
 
   abbrev signals : List Stood
-  signals = signals_stood t.signal_looks 0 t.signals
+  signals = signals_stood t.looks.signals 0 t.signals
 
   abbrev chans : List Stood
   chans = histories_stood families.Chan 0 t.chans
@@ -245,7 +245,7 @@ module _ (s : Content) (t : Trace) (placed : IsPlaced s t)
         ∙ logs-one (mine k) (line k spot here) (is_mine k spot here) (own-line k) item_look_at item_step item-own item_look_stood item-law 0 t.logs player log k spot look there here refl
         (ap (λ (n : ℕ). line_at n k spot) (begin player))
     items-has k spot here =
-        none-in k spot here 1 items (mapped-each (InPart 1) item_look_stood t.item_looks (items-part t.item_looks)) (stays k spot here).item (λ is. absurd (omega (arith, is)))
+        none-in k spot here 1 items (mapped-each (InPart 1) item_look_stood t.looks.items (items-part t.looks.items)) (stays k spot here).item (λ is. absurd (omega (arith, is)))
 
     clocks-has : (k : ℕ) (spot : Spot) (here : slice_get log.steps k ≡ Some spot) → filter (mine k) clocks ≡ given k spot here (eqb (part_of spot) 2)
     clocks-has k (spots.Clock p) here =
@@ -289,23 +289,23 @@ module _ (s : Content) (t : Trace) (placed : IsPlaced s t)
     signals-has k (spots.Signal o p) here =
         let spot : Spot = spots.Signal o p in
         let found = entry-there k (entry_at t.signals o p) (placed.stands player k spot log there here refl) in
-        signals-write (mine k) (line k spot here) (is_mine k spot here) t.signal_looks 0 t.signals o p found.0 found.1
+        signals-write (mine k) (line k spot here) (is_mine k spot here) t.looks.signals 0 t.signals o p found.0 found.1
         (ap (λ (n : ℕ). line_at found.0.who.number found.0.step (spots.Signal n p)) (begin o) ∙ entry-line k spot found.0 found.2) (stays k spot here).signal
     signals-has k (spots.LookSignal o seen) here =
         let spot : Spot = spots.LookSignal o seen in
         let within = looked player log k o seen there here in
         let look : SignalLook = record { player = 0 + player; step = k; seen = seen } in
         let at : signal_look_at (0 + o) (0 + player) k spot ≡ Some look = cond-true (o == (0 + o)) (Some look) None (eq-eqb o (0 + o) (sym (begin o))) in
-        let looks : looks_at t.signal_looks (0 + o) ≡ all_looks (signal_look_at (0 + o)) 0 t.logs =
+        let looks : looks_at t.looks.signals (0 + o) ≡ all_looks (signal_look_at (0 + o)) 0 t.logs =
         ap (λ (ls : List (List SignalLook)). looks_at ls (0 + o)) placed.signal_looks ∙ looks-at (length t.signals) t.logs (0 + o) (let it = begin o in omega arith) in
-        signals-look (mine k) (line k spot here) (is_mine k spot here) t.signal_looks 0 t.signals o within refl (sym (begin o))
+        signals-look (mine k) (line k spot here) (is_mine k spot here) t.looks.signals 0 t.signals o within refl (sym (begin o))
         (ap (λ (ls : List SignalLook). filter (mine k) (map (signal_look_stood (0 + o)) ls)) looks
         ∙ logs-one (mine k) (line k spot here) (is_mine k spot here) (own-line k) (signal_look_at (0 + o)) signal_step (signal-own (0 + o)) (signal_look_stood (0 + o)) (signal-law (0 + o)) 0 t.logs
         player log k spot look there here at (ap (λ (n : ℕ). line_at n k spot) (begin player)))
         (stays k spot here).signal
     signals-has k spot here =
         none-in k spot here 6 signals
-        (signals-each (InPart 6) t.signal_looks 0 t.signals (λ o p e at. refl) (λ o within. looks-part (0 + o) (looks_at t.signal_looks (0 + o)))) (stays k spot here).signal (λ is. absurd (omega (arith, is)))
+        (signals-each (InPart 6) t.looks.signals 0 t.signals (λ o p e at. refl) (λ o within. looks-part (0 + o) (looks_at t.looks.signals (0 + o)))) (stays k spot here).signal (λ is. absurd (omega (arith, is)))
 
     chans-has : (k : ℕ) (spot : Spot) (here : slice_get log.steps k ≡ Some spot) → filter (mine k) chans ≡ given k spot here (eqb (part_of spot) 7)
     chans-has k (spots.Chan o p) here = family-has families.Chan t.chans k o p here refl refl (stays k (spots.Chan o p) here).chan

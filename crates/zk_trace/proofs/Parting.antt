@@ -1,21 +1,39 @@
 -- The lines that were passed before a trace part.
-use Rattle.std.proofs.Common.{◌≡◌, inl, inr, ℕ, ◌+◌, ◌-◌, ◌<◌, ◌≤◌, Some, None, List, [], ◌∷◌, ◌++◌, length, length-append, take, drop, append_assoc, append-nil, arith, refl, sym, ap, subst, ◌∙◌}
-use Rattle.std.specs.List.{AllByRecursion, flat_map}
+use Rattle.std.proofs.Common.{◌≡◌, inl, inr, ℕ, ◌-◌, ◌<◌, ◌≤◌, true, false, Option, Some, None, is_some, List, [], ◌∷◌, ◌++◌, length, length-append, take, drop, append_assoc, append-nil, arith, refl, sym, ap, subst, ◌∙◌}
+use Rattle.std.specs.List.{AllByRecursion}
 use Rattle.std.proofs.Math.Seq.{take-append_seam, drop-append_seam}
 use Rattle.std.proofs.lemmas.List.Concat.{flat_map-append}
-use Rattle.zk_blocks.specs.Cut.{cut_of, fed, fed_lines, AreUnfed, IsUnfed}
+use Rattle.std.proofs.lemmas.Bool.{true≢false}
+use Rattle.std.proofs.lemmas.Option.{none-some}
+use Rattle.zk_blocks.specs.Cut.{fed, fed_lines, AreUnfed, IsUnfed}
 use Rattle.zk_blocks.proofs.Cut.{cut_front, cut_again}
 use Rattle.zk_words.specs.Bytes.{line_feed}
 use Rattle.zk_trace.specs.Feeds.{lines_in}
-use Rattle.zk_trace.specs.Parting.{AreParts, BeginsTrace}
+use Rattle.zk_trace.specs.declared.format.Format.{Format}
+use Rattle.zk_trace.specs.Parting.{IsOther, AreParts}
 use Rattle.zk_trace.specs.Sides.{halves}
 use Rattle.zk_trace.specs.Text.{first_row}
-use Rattle.zk_trace.proofs.Feeds.{lines-there, lines-nowhere, halves-lacks}
+use Rattle.zk_trace.specs.WholeRead.{format_of}
+use Rattle.zk_trace.proofs.Feeds.{lines-nowhere, halves-lacks}
 use Rattle.zk_trace.proofs.Sides.{halves-spelled}
+use Rattle.zk_trace.proofs.WholeRead.{format-again, format-spelled}
 
--- it isn't the first line of a trace part
-abbrev pub IsOther : List ℕ → Type 0
-IsOther line = line ≡ first_row → ⊥
+-- what begins no trace part says no format
+pub other-is : (line : List ℕ) → format_of line ≡ None → IsOther line
+other-is line none f is = none-some f (sym none ∙ ap format_of is ∙ format-again f)
+
+-- and what says one begins one
+pub first-is : (line : List ℕ) → is_some (format_of line) ≡ true → (f : Format) × (line ≡ first_row f)
+first-is line some = by (format_of line) refl some where
+  by : (o : Option Format) → format_of line ≡ o → is_some o ≡ true → (f : Format) × (line ≡ first_row f)
+  by None is some = absurd (true≢false (sym some))
+  by (Some f) is some = (f, format-spelled line f is)
+
+pub not-first : (line : List ℕ) → is_some (format_of line) ≡ false → IsOther line
+not-first line none = by (format_of line) refl none where
+  by : (o : Option Format) → format_of line ≡ o → is_some o ≡ false → IsOther line
+  by None is none = other-is line is
+  by (Some f) is none = absurd (true≢false none)
 
 -- lines were passed, none of which is that
 pub record ArePassed (text rest : List ℕ) : Type 0 where
@@ -54,9 +72,9 @@ drop-front front rest =
     ap (λ n. drop n (front ++ rest)) (omega (arith, length-append front rest)) ∙ drop-append_seam front rest
 
 -- where that line comes, the trace part begins with it
-pub part-begins : (text rest line behind : List ℕ) → ArePassed text rest → halves line_feed rest ≡ Some (line, behind) → line ≡ first_row →
+pub part-begins : (text rest line behind : List ℕ) → ArePassed text rest → halves line_feed rest ≡ Some (line, behind) → (f : Format) → line ≡ first_row f →
     AreParts text (take (length text - length rest) text) (drop (length text - length rest) text)
-part-begins text rest line behind passed is same =
+part-begins text rest line behind passed is f same =
     subst (λ t. AreParts t (take (length t - length rest) t) (drop (length t - length rest) t)) (sym passed.whole)
     (cut-there (take-front front rest) (drop-front front rest)) where
       front : List ℕ
@@ -68,6 +86,7 @@ part-begins text rest line behind passed is same =
         before = subst (AllByRecursion IsOther) (sym (ap (λ c. c.0) (cut_again line_feed passed.lines passed.unfed))) passed.other;
         begins = inr (record {
           fed = ap (λ c. c.1) (cut_again line_feed passed.lines passed.unfed);
+          format = f;
           more = behind;
           head = halves-spelled line_feed rest line behind is ∙ ap (λ l. l ++ line_feed ∷ behind) same;
         });

@@ -1,5 +1,5 @@
 -- Lines that are put in slots by their steps: where no slot is free, they stand there by step.
-use Rattle.std.proofs.Common.{◌≡◌, ◌⊎◌, ℕ, ◌+◌, ◌-◌, ◌<◌, ◌≤◌, zero, suc, Bool, cond, eqb, eq-eqb, Option, Some, None, List, [], ◌∷◌, ◌++◌, length, get_or, take, map, replicate, slice_set, slice_get, arith, refl, sym, ap, inl, inr, ◌∙◌}
+use Rattle.std.proofs.Common.{◌≡◌, ◌⊎◌, ℕ, ◌+◌, ◌-◌, ◌<◌, ◌≤◌, zero, suc, cond, eq-eqb, Option, Some, None, List, [], ◌∷◌, ◌++◌, length, get_or, take, map, replicate, slice_set, slice_get, arith, refl, sym, ap, inl, inr, ◌∙◌}
 use Rattle.std.specs.List.{filter, range_with_len}
 use Rattle.std.specs.Option.{IfSome}
 use Rattle.std.proofs.lemmas.Bool.{cases_eq, cases_lt, ne_eqb}

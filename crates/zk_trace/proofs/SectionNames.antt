@@ -1,20 +1,16 @@
 -- The names of all sections differ, so that each has a head of its own.
-use Rattle.std.proofs.Common.{◌≡◌, ◌≢◌, ◌⊎◌, ℕ, ◌≤◌, ◌<◌, if◌then◌else◌, map, eqb, Bool, true, false, Some, List, [], ◌∷◌, codes, zero, suc, slice_get, arith, refl, sym, ap, inl, inr, ◌∙◌}
+use Rattle.std.proofs.Common.{◌≡◌, ◌≢◌, ℕ, ◌≤◌, ◌<◌, if◌then◌else◌, map, Bool, true, false, Some, List, [], ◌∷◌, zero, suc, slice_get, arith, refl, sym, ap, ◌∙◌}
 use Rattle.std.specs.Prelude.{bytes_eq}
 use Rattle.std.specs.List.{AllByRecursion}
 use Rattle.std.proofs.lemmas.Bool.{false≢true, true≢false}
-use Rattle.std.proofs.lemmas.List.{append_cancel_left}
 use Rattle.std.proofs.lemmas.Option.{same_Some}
-use Rattle.std.proofs.lemmas.Slice.Eq.{bytes_eq-Decides}
 use Rattle.zk_base.specs.Names.{is_name}
 use Rattle.zk_blocks.specs.Apart.{IsNone, AreApart}
 use Rattle.zk_blocks.specs.Families.{kind_names}
-use Rattle.zk_blocks.specs.Heads.{AreHeads}
 use Rattle.zk_line.specs.Objects.{AreNames, name_of, object_of, is_sem, is_msgq, is_signal, is_chan, is_observer}
 use Rattle.zk_line.specs.declared.types.Decl.{Decl}
 use Rattle.zk_line.specs.declared.types.Decl.TheVariants.{Sem, Msgq, Signal, Listener, Sub, Chan}
-use Rattle.zk_trace.specs.SectionRead.{is_head, IsPlayerRow}
-use Rattle.zk_trace.specs.Text.{work_name, clock_name, table_name, head_row}
+use Rattle.zk_trace.specs.Text.{work_name, clock_name, table_name}
 
 -- the names of the sections in their order, from each family on
 abbrev pub observer_names : List Decl → List (List ℕ)
@@ -111,11 +107,6 @@ apart_from (d ∷ ds) one = (
 differ : (word other : List ℕ) → bytes_eq word word ≡ true → bytes_eq other word ≡ false → word ≢ other
 differ word other same not_same is = true≢false (sym same ∙ ap (λ l. bytes_eq l word) is ∙ not_same)
 
--- the first byte of the heads of services
-abbrev is_service : List ℕ → Bool
-is_service [] = false
-is_service (b ∷ bs) = eqb b 115
-
 module _ (decls : List Decl) (are : AreNames decls) where
   -- two declarations of one name are one
   one_place : (i j : ℕ) (d e : Decl) → slice_get decls i ≡ Some d → slice_get decls j ≡ Some e → name_of d ≡ name_of e → i ≡ j
@@ -191,14 +182,3 @@ module _ (decls : List Decl) (are : AreNames decls) where
       (none_sem table_name (reserved_no table_name refl), sems_apart),
     ),
   )
-
--- each name has a head of its own, which is no player's
-pub heads : AreHeads head_row is_head (λ line. IsPlayerRow line ⊎ ⊥)
-heads = record {
-  test = λ name line. bytes_eq-Decides line (head_row name);
-  one_name = λ name other is. append_cancel_left (codes "service ") name other is;
-  not_behind = not_behind;
-} where
-  not_behind : (name : List ℕ) → IsPlayerRow (head_row name) ⊎ ⊥ → ⊥
-  not_behind name (inl (rest, is)) = true≢false (ap is_service is)
-  not_behind name (inr none) = none

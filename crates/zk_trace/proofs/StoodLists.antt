@@ -56,15 +56,15 @@ module _ {O R : Type 0} (hs : List (List (Entry O R))) (object : ℕ) (h : List 
 
 -- all lines of a trace, part by part
 pub all-stood : (t : Trace) (start a b c d e f g h end : List Stood) → start ≡ [] →
-    a ≡ start ++ entries_stood homes.Work 0 t.work → b ≡ a ++ map item_look_stood t.item_looks → c ≡ b ++ entries_stood homes.Clock 0 t.clock →
+    a ≡ start ++ entries_stood homes.Work 0 t.work → b ≡ a ++ map item_look_stood t.looks.items → c ≡ b ++ entries_stood homes.Clock 0 t.clock →
     d ≡ c ++ entries_stood homes.Table 0 t.table → e ≡ d ++ histories_stood families.Sem 0 t.sems → f ≡ e ++ histories_stood families.Msgq 0 t.msgqs →
-    g ≡ f ++ signals_stood t.signal_looks 0 t.signals → h ≡ g ++ histories_stood families.Chan 0 t.chans → end ≡ h ++ histories_stood families.Obs 0 t.observers →
+    g ≡ f ++ signals_stood t.looks.signals 0 t.signals → h ≡ g ++ histories_stood families.Chan 0 t.chans → end ≡ h ++ histories_stood families.Obs 0 t.observers →
     end ≡ stood t
 all-stood t start a b c d e f g h end empty is_a is_b is_c is_d is_e is_f is_g is_h is_end =
     is_end ∙ behind (histories_stood families.Obs 0 t.observers) (is_h ∙ behind (histories_stood families.Chan 0 t.chans)
-    (is_g ∙ behind (signals_stood t.signal_looks 0 t.signals) (is_f ∙ behind (histories_stood families.Msgq 0 t.msgqs)
+    (is_g ∙ behind (signals_stood t.looks.signals 0 t.signals) (is_f ∙ behind (histories_stood families.Msgq 0 t.msgqs)
     (is_e ∙ behind (histories_stood families.Sem 0 t.sems) (is_d ∙ behind (entries_stood homes.Table 0 t.table)
-    (is_c ∙ behind (entries_stood homes.Clock 0 t.clock) (is_b ∙ behind (map item_look_stood t.item_looks)
+    (is_c ∙ behind (entries_stood homes.Clock 0 t.clock) (is_b ∙ behind (map item_look_stood t.looks.items)
     (is_a ∙ behind (entries_stood homes.Work 0 t.work) empty)))))))) where
       behind : (more : List Stood) {x y : List Stood} → x ≡ y → x ++ more ≡ y ++ more
       behind more is = ap (λ l. l ++ more) is

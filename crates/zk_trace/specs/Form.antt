@@ -42,7 +42,7 @@ pub record IsInForm (s : Content) (t : Trace) : Type 0 where
   pub chans : AreOfKind is_chan (AllByRecursion (IsChan s.decls)) s.decls t.chans
   pub observers : AreOfKind is_observer (AllByRecursion (IsObs s.decls)) s.decls t.observers
   -- each look is in form, and none stands behind one of a later player, or of a later step of the same
-  pub item_looks : AllFit (FitsItemLook s.decls) None t.item_looks
-  pub signal_looks : AreOfKind is_signal (AllFit (FitsSignalLook s.decls) None) s.decls t.signal_looks
+  pub item_looks : AllFit (FitsItemLook s.decls) None t.looks.items
+  pub signal_looks : AreOfKind is_signal (AllFit (FitsSignalLook s.decls) None) s.decls t.looks.signals
   -- for each player there is a log
   pub logs : EachFits (IsLog s.decls (stood t)) (player_numbers s.decls) t.logs

@@ -5,6 +5,7 @@ pub mod Stood
 pub mod Slots
 pub mod EntryKinds
 pub mod Form
+pub mod Formats
 pub mod WholeRead
 pub mod WholeParts
 pub mod TraceRead

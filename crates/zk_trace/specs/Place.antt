@@ -33,7 +33,7 @@ pub record IsPlaced (s : Content) (t : Trace) : Type 0 where
   pub each : (spot : Spot) (number step : ℕ) → shown_at (trace_shown t) spot ≡ Some (number, step) →
       option_and_then (λ log. slice_get log.steps step) (slice_get t.logs number) ≡ Some spot
   -- the looks are those of the logs
-  pub item_looks : t.item_looks ≡ item_looks_of t.logs
-  pub signal_looks : t.signal_looks ≡ signal_looks_of (length t.signals) t.logs
+  pub item_looks : t.looks.items ≡ item_looks_of t.logs
+  pub signal_looks : t.looks.signals ≡ signal_looks_of (length t.signals) t.logs
   -- and in each history each player's entries rise in step
   pub rises : EachRises t

@@ -90,6 +90,6 @@ pub record IsSized (t : Trace) : Type 0 where
   pub signals : All (All (IsSizedEntry IsSizedWrite (λ r. AreSized (signal.reply_parts r)))) t.signals
   pub chans : All (All (IsSizedEntry (λ op. AreSized (chan.said_of op).1) (λ r. AreSized (chan.reply_parts r)))) t.chans
   pub observers : All (All (IsSizedEntry (λ op. AreSized (obs.said_of op).1) (λ r. AreSized (obs.reply_parts r)))) t.observers
-  pub item_looks : All IsSizedItemLook t.item_looks
-  pub signal_looks : All (All IsSizedSignalLook) t.signal_looks
+  pub item_looks : All IsSizedItemLook t.looks.items
+  pub signal_looks : All (All IsSizedSignalLook) t.looks.signals
   pub logs : All IsSizedLog t.logs

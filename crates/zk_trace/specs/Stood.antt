@@ -59,10 +59,10 @@ signals_stood looks object (h ∷ hs) =
 -- all lines of entries and looks, in the order of the text
 abbrev pub stood : Trace → List Stood
 stood t =
-    entries_stood homes.Work 0 t.work ++ map item_look_stood t.item_looks
+    entries_stood homes.Work 0 t.work ++ map item_look_stood t.looks.items
     ++ entries_stood homes.Clock 0 t.clock ++ entries_stood homes.Table 0 t.table
     ++ histories_stood families.Sem 0 t.sems ++ histories_stood families.Msgq 0 t.msgqs
-    ++ signals_stood t.signal_looks 0 t.signals
+    ++ signals_stood t.looks.signals 0 t.signals
     ++ histories_stood families.Chan 0 t.chans ++ histories_stood families.Obs 0 t.observers
 
 -- objects have numbers of 32 bits

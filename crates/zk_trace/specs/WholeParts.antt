@@ -13,4 +13,4 @@ abbrev pub families_of : families_read.Families → Families
 families_of f = (f.sems, (f.msgqs, (f.signals, (f.chans, f.observers))))
 
 abbrev pub parts_of : whole_read.Whole → Whole
-parts_of w = (tt, (w.ending, (singles_of w.singles, (families_of w.families, w.players))))
+parts_of w = (w.format, (w.ending, (singles_of w.singles, (families_of w.families, w.players))))

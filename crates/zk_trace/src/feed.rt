@@ -9,6 +9,8 @@ use std::marker::Model;
 pub struct Feed<'a> {
     // What stands behind the last feed that was passed.
     rest: &'a [u8],
+    // How many lines that is, for rooms alone.
+    lines: usize,
 }
 
 impl<'a> Model for Feed<'a> {
@@ -25,7 +27,10 @@ impl<'a> Feed<'a> {
     pub fn of(text: &'a [u8]) -> Feed<'a>
         ensures { result ≡ lines_in text.now }
     {
-        Feed { rest: text }
+        Feed {
+            rest: text,
+            lines: count_of(b'\n', text),
+        }
     }
 
     /// The next line, and what stands behind its feed. It isn't passed.
@@ -43,6 +48,16 @@ impl<'a> Feed<'a> {
         ensures { self.new ≡ lines_in rest.now }
     {
         self.rest = rest;
+        self.lines = self.lines.saturating_sub(1);
+    }
+
+    /// The room for so many lines, where that is known: for no more than are left.
+    pub fn room(&self, count: Option<u64>) -> usize {
+        match count {
+            Some(count) if count < self.lines as u64 => count as usize,
+            Some(_) => self.lines,
+            None => 0,
+        }
     }
 
     /// Whether there is no line more.

@@ -17,7 +17,7 @@ use zk_scenario::Scenario;
 use zk_words::{Words, is_same};
 
 /// A word that says nothing but that it is there.
-fn same_word(this: &[u8], word: &[u8]) -> Option<()>
+pub fn same_word(this: &[u8], word: &[u8]) -> Option<()>
     ensures { result ≡ same_word this.now word.now }
 {
     if is_same(word, this) { Some(()) } else { None }

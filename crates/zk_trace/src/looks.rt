@@ -52,6 +52,15 @@ pub type ItemLooks = Listed<ItemLook>;
 /// The looks at each signal, by object number; each by player and then by step.
 pub type SignalLooks = Listed<Listed<SignalLook>>;
 
+/// All looks, a list a section. A section's lines in a trace are these, in this order.
+#[derive(Drop)]
+pub struct Looks {
+    /// Those at items, in the section of the work service.
+    pub items: ItemLooks,
+    /// Those at signals, in the section of each.
+    pub signals: SignalLooks,
+}
+
 impl Lined for ItemLook {
     ghost text = { item_look_line };
 

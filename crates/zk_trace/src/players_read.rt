@@ -1,14 +1,17 @@
 ghost use Rattle.std.specs.Prelude.{◌≡◌, None, IfOk};
 ghost use Rattle.zk_blocks.specs.Blocks.{Gives};
-ghost use Rattle.zk_blocks.specs.Rows.{rows_of};
+ghost use Rattle.zk_blocks.specs.Rows.{counted_rows};
 ghost use Rattle.zk_trace.specs.AnswerRead.{answered_of};
-ghost use Rattle.zk_trace.specs.WholeRead.{state_of, player_state_of, read_player, read_players};
+ghost use Rattle.zk_trace.specs.WholeRead.{state_of, player_words_of, player_head_of, read_player, read_players};
 
 use crate::feed::Feed;
+use crate::format::Format;
 use crate::hints::Hints;
+use crate::look_read::same_word;
 use crate::names::player_name;
-use crate::row_words::three_words;
-use crate::rows_read::read_row;
+use crate::numerals::wide_of;
+use crate::row_words::{behind, three_words, two_words};
+use crate::rows_read::{are_all, read_row, where_untold};
 use crate::sections::PLAYER;
 use crate::words::state_word;
 use std::alloc::Global;
@@ -35,35 +38,58 @@ fn state_of(word: &[u8]) -> Option<PlayerState>
         .find(|state| word == state_word(*state))
 }
 
-/// How a player of this name stands, by its head.
-fn player_state_of(name: &[u8], row: &[u8]) -> Option<PlayerState>
-    ensures { result ≡ player_state_of name.now row.now }
+/// What the words behind the first one in the head of this player tell: how it stands, and how many answers it has where
+/// that is told.
+fn player_words_of(
+    format: Format,
+    name: &[u8],
+    words: Words<'_>,
+) -> Option<(PlayerState, Option<u64>)>
+    ensures { result ≡ player_words_of format name.now words.entry }
 {
-    let (first, second, third) = three_words(Words::of(row))?;
-    if first == PLAYER && second == name {
-        state_of(third)
-    } else {
-        None
+    match format {
+        Format::One => {
+            let (word, state) = two_words(words)?;
+            same_word(name, word)?;
+            Some((state_of(state)?, None))
+        }
+        Format::Two => {
+            let (word, state, answers) = three_words(words)?;
+            same_word(name, word)?;
+            let state = state_of(state)?;
+            Some((state, Some(wide_of(answers)?)))
+        }
     }
 }
 
-/// The answers at the front of some lines.
+/// What a line tells of a player of this name, where it is its head.
+fn player_head_of(format: Format, name: &[u8], row: &[u8]) -> Option<(PlayerState, Option<u64>)>
+    ensures { result ≡ player_head_of format name.now row.now }
+{
+    player_words_of(format, name, behind(PLAYER, Words::of(row))?)
+}
+
+/// The answers at the front of some lines: just so many where the head of the player tells it, and else as many as there are.
 fn read_answers(
     alloc: Global,
     scenario: &Scenario,
     hints: &Hints,
+    count: Option<u64>,
     feed: &mut Feed<'_>,
-) -> Result<Answers, NoMemory>
-    ensures { IfOk result (λ answers.
-        rows_of (λ last. answered_of scenario.now.decls) None feed.old ≡ (answers, feed.new)) }
+) -> Result<Option<Answers>, NoMemory>
+    ensures { IfOk result (λ read.
+        Gives (λ x. x) read feed.new (counted_rows (λ last. answered_of scenario.now.decls) count None feed.old)) }
 {
     // A type inside that the prover has to be told of.
     let _known: Option<Answer> = None;
     let mut answers = Answers::new(alloc);
-    while let Some(answered) = read_row::<Answered>(alloc, scenario, hints, None, feed)? {
+    while !are_all(count, answers.len()) {
+        let Some(answered) = read_row::<Answered>(alloc, scenario, hints, None, feed)? else {
+            return Ok(where_untold(count, answers));
+        };
         answers.push(answered)?;
     }
-    Ok(answers)
+    Ok(Some(answers))
 }
 
 /// The section of a player; nothing where the lines don't go on so.
@@ -71,20 +97,23 @@ fn read_player(
     alloc: Global,
     scenario: &Scenario,
     hints: &Hints,
+    format: Format,
     player: u32,
     feed: &mut Feed<'_>,
 ) -> Result<Option<(PlayerState, Answers)>, NoMemory>
-    ensures { IfOk result (λ read. Gives (λ x. x) read feed.new (read_player scenario.now.decls player feed.old)) }
+    ensures { IfOk result (λ read. Gives (λ x. x) read feed.new (read_player format scenario.now.decls player feed.old)) }
 {
     let Some((line, rest)) = feed.next() else {
         return Ok(None);
     };
     let name = player_name(scenario, player as usize);
-    let Some(state) = player_state_of(name, line) else {
+    let Some((state, count)) = player_head_of(format, name, line) else {
         return Ok(None);
     };
     feed.go_on(rest);
-    let answers = read_answers(alloc, scenario, hints, feed)?;
+    let Some(answers) = read_answers(alloc, scenario, hints, count, feed)? else {
+        return Ok(None);
+    };
     Ok(Some((state, answers)))
 }
 
@@ -93,13 +122,14 @@ pub fn read_players(
     alloc: Global,
     scenario: &Scenario,
     hints: &Hints,
+    format: Format,
     feed: &mut Feed<'_>,
 ) -> Result<Option<Listed<(PlayerState, Answers)>>, NoMemory>
-    ensures { IfOk result (λ read. Gives (λ x. x) read feed.new (read_players scenario.now.decls feed.old)) }
+    ensures { IfOk result (λ read. Gives (λ x. x) read feed.new (read_players format scenario.now.decls feed.old)) }
 {
     let mut all = Vec::new(alloc);
     for player in 0..scenario.players() {
-        match read_player(alloc, scenario, hints, player, feed)? {
+        match read_player(alloc, scenario, hints, format, player, feed)? {
             Some(one) => all.push(one)?,
             None => return Ok(None),
         }

@@ -4,12 +4,15 @@ ghost use Rattle.zk_words.specs.Bytes.{line_feed};
 ghost use Rattle.zk_trace.specs.declared.read.TraceRefused.TheVariants.{At, NoMemory};
 ghost use Rattle.zk_trace.specs.declared.trace.Trace.{Trace};
 ghost use Rattle.zk_trace.specs.Feeds.{lines_in};
+ghost use Rattle.zk_trace.specs.declared.format.Format.{Format};
 ghost use Rattle.zk_trace.specs.Form.{IsInForm};
 ghost use Rattle.zk_trace.specs.Text.{trace_text};
-ghost use Rattle.zk_trace.specs.TraceRead.{IsReadAs, IfAt, IsRefusedAt, line_number};
+ghost use Rattle.zk_trace.specs.TraceRead.{IsReadIn, HasText, IsReadAs, IfAt, IsRefusedAt, line_number};
 
 use crate::Trace;
+use crate::counts::long;
 use crate::feed::{Feed, line_count};
+use crate::format::Formats;
 use crate::hints::Hints;
 use crate::trace_made::trace_of;
 use crate::whole_read::read_whole;
@@ -38,22 +41,25 @@ impl From<base::NoMemory> for TraceRefused {
 
 /// Reads the trace part of an output, which stands behind a scenario's text and begins with the line of this number.
 ///
-/// It reads just the text that `put_trace` gives for a trace in form. What is refused is named by the number of its first line
-/// that can't stand behind those before it, or of the one behind the last line.
+/// It reads just the texts of traces in form, in those of these formats that the scenario may have. What is refused is named by
+/// the number of its first line that can't stand behind those before it, or of the one behind the last line.
 pub fn read_trace(
     alloc: Global,
     scenario: &Scenario,
+    formats: Formats,
     bytes: &[u8],
     first_line: u32,
 ) -> Result<Trace, TraceRefused>
-    ensures found { IfOk result (λ trace. (bytes.now ≡ trace_text scenario.now trace) × IsInForm scenario.now trace) }
-    ensures only { (trace : Trace) → IsInForm scenario.now trace → bytes.now ≡ trace_text scenario.now trace → IsReadAs trace result }
-    ensures at { IfAt result (λ number. IsRefusedAt scenario.now bytes.now first_line number) }
+    ensures found { IfOk result (λ trace. HasText formats scenario.now trace bytes.now) }
+    ensures only { (f : Format) (trace : Trace) → IsReadIn formats scenario.now f → IsInForm scenario.now trace →
+        bytes.now ≡ trace_text f scenario.now trace → IsReadAs trace result }
+    ensures at { IfAt result (λ number. IsRefusedAt formats scenario.now bytes.now first_line number) }
 {
     let _readable = scenario.decls();
+    long(bytes);
     let mut feed = Feed::of(bytes);
     let hints = Hints::of(scenario);
-    let Some(whole) = read_whole(alloc, scenario, &hints, &mut feed)? else {
+    let Some(whole) = read_whole(alloc, scenario, &hints, formats, &mut feed)? else {
         return Err(refused(bytes, first_line, &feed));
     };
     if !is_read(bytes, &feed) {

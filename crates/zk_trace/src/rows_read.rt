@@ -1,17 +1,18 @@
-ghost use Rattle.std.specs.Prelude.{◌≡◌, ◌<◌, ℕ, List, Option, Some, None, [], ◌∷◌, length, MatchOption, IfOk, IfSome};
+ghost use Rattle.std.specs.Prelude.{◌≡◌, ◌<◌, ℕ, List, Option, None, [], length, IfOk, IfSome};
 ghost use Rattle.std.specs.Option.{option_copied};
-ghost use Rattle.zk_blocks.specs.Blocks.{Gives, given_of};
+ghost use Rattle.zk_blocks.specs.Blocks.{Gives, line_of, given_of};
 ghost use Rattle.zk_blocks.specs.Families.{plain_family_of, section_family_of};
-ghost use Rattle.zk_blocks.specs.Rows.{rows_of};
+ghost use Rattle.zk_blocks.specs.Rows.{counted_rows};
 ghost use Rattle.zk_blocks.specs.Sections.{plain_section_of, section_of, neither};
 ghost use Rattle.zk_line.specs.declared.types.Decl.{Decl};
 ghost use Rattle.zk_line.specs.Objects.{is_met, name_of};
-ghost use Rattle.zk_trace.specs.SectionRead.{is_head, has_player};
+ghost use Rattle.zk_trace.specs.SectionRead.{are_all, where_untold, head_of, plain_head_of, has_player};
 
 use crate::feed::Feed;
+use crate::format::Format;
+use crate::heads::{head_of, plain_head_of};
 use crate::hints::Hints;
 use crate::lined::Lined;
-use crate::sections::SERVICE;
 use std::alloc::Global;
 use zk_base::{Listed, NoMemory};
 use zk_line::{kind_of, name_of};
@@ -34,20 +35,45 @@ pub trait Row: Lined + Drop {
         ensures { IfOk result (λ row. row ≡ says scenario.now.decls (option_copied last.entry) line.now) };
 }
 
-/// The rows at the front of some lines.
+/// Whether these are all rows of their sort, where the head of their section tells how many there are.
+pub fn are_all(count: Option<u64>, rows: usize) -> bool
+    ensures { result ≡ are_all count rows }
+{
+    match count {
+        Some(count) => rows as u64 == count,
+        None => false,
+    }
+}
+
+/// These, where no number of them is told.
+pub fn where_untold<A: Drop>(count: Option<u64>, all: A) -> Option<A>
+    ensures { result ≡ where_untold count all }
+{
+    match count {
+        Some(_) => None,
+        None => Some(all),
+    }
+}
+
+/// The rows at the front of some lines: just so many where the head of their section tells it, and else as many as there are.
 pub fn read_rows<X: Row>(
     alloc: Global,
     scenario: &Scenario,
     hints: &Hints,
+    count: Option<u64>,
     feed: &mut Feed<'_>,
-) -> Result<Vec<X>, NoMemory>
-    ensures { IfOk result (λ rows. rows_of (X.says scenario.now.decls) None feed.old ≡ (rows.items, feed.new)) }
+) -> Result<Option<Vec<X>>, NoMemory>
+    ensures { IfOk result (λ read.
+        Gives (λ rows. rows.items) read feed.new (counted_rows (X.says scenario.now.decls) count None feed.old)) }
 {
-    let mut rows = Vec::new(alloc);
-    while let Some(row) = read_row::<X>(alloc, scenario, hints, rows.last(), feed)? {
+    let mut rows = Vec::with_capacity(alloc, feed.room(count))?;
+    while !are_all(count, rows.len()) {
+        let Some(row) = read_row::<X>(alloc, scenario, hints, rows.last(), feed)? else {
+            return Ok(where_untold(count, rows));
+        };
         rows.push(row)?;
     }
-    Ok(rows)
+    Ok(Some(rows))
 }
 
 /// The next row; nothing where the next line is none.
@@ -59,10 +85,8 @@ pub fn read_row<X: Row>(
     feed: &mut Feed<'_>,
 ) -> Result<Option<X>, NoMemory>
     ensures shorter { IfOk result (λ row. IfSome row (λ one. length feed.new < length feed.old)) }
-    ensures front { IfOk result (λ row. MatchOption row
-        ((rows_of (X.says scenario.now.decls) (option_copied last.entry) feed.old ≡ ([], feed.old)) × (feed.new ≡ feed.old))
-        (λ one. rows_of (X.says scenario.now.decls) (option_copied last.entry) feed.old
-        ≡ (one ∷ (rows_of (X.says scenario.now.decls) (Some one) feed.new).0, (rows_of (X.says scenario.now.decls) (Some one) feed.new).1))) }
+    ensures row { IfOk result (λ row.
+        Gives (λ x. x) row feed.new (line_of (X.says scenario.now.decls (option_copied last.entry)) feed.old)) }
 {
     let Some((line, rest)) = feed.next() else {
         return Ok(None);
@@ -74,38 +98,31 @@ pub fn read_row<X: Row>(
     Ok(row)
 }
 
-/// Whether a line is the head of this section.
-fn is_head(name: &[u8], line: &[u8]) -> bool
-    ensures { result ≡ is_head name.now line.now }
-{
-    match line.strip_prefix(SERVICE) {
-        Some(rest) => rest == name,
-        None => false,
-    }
-}
-
 /// A section of rows; none where there is no head, and nothing where the lines don't go on so.
 pub fn read_section<E: Row>(
     alloc: Global,
     scenario: &Scenario,
     hints: &Hints,
+    format: Format,
     name: &[u8],
     feed: &mut Feed<'_>,
 ) -> Result<Option<Listed<E>>, NoMemory>
     ensures { let decls = scenario.now.decls in IfOk result (λ read.
-        Gives (λ x. x) read feed.new (plain_section_of (has_player decls) (is_head name.now) (E.says decls) feed.old)) }
+        Gives (λ x. x) read feed.new (plain_section_of (has_player decls) (plain_head_of format name.now) (E.says decls) feed.old)) }
 {
     let Some((line, rest)) = feed.next() else {
         return Ok(Some(Listed::new(alloc)));
     };
-    if !is_head(name, line) {
+    let Some(count) = plain_head_of(format, name, line) else {
         return Ok(Some(Listed::new(alloc)));
-    }
+    };
     if scenario.players() == 0 {
         return Ok(None);
     }
     feed.go_on(rest);
-    let rows = read_rows::<E>(alloc, scenario, hints, feed)?;
+    let Some(rows) = read_rows::<E>(alloc, scenario, hints, count, feed)? else {
+        return Ok(None);
+    };
     if rows.is_empty() {
         return Ok(None);
     }
@@ -117,24 +134,29 @@ pub fn read_looked<E: Row, K: Row>(
     alloc: Global,
     scenario: &Scenario,
     hints: &Hints,
+    format: Format,
     name: &[u8],
     feed: &mut Feed<'_>,
 ) -> Result<Option<(Listed<E>, Listed<K>)>, NoMemory>
     ensures { let decls = scenario.now.decls in IfOk result (λ read.
-        Gives (λ x. x) read feed.new (section_of (has_player decls) (is_head name.now) (E.says decls) (K.says decls) feed.old)) }
+        Gives (λ x. x) read feed.new (section_of (has_player decls) (head_of format name.now) (E.says decls) (K.says decls) feed.old)) }
 {
     let Some((line, rest)) = feed.next() else {
         return Ok(Some((Listed::new(alloc), Listed::new(alloc))));
     };
-    if !is_head(name, line) {
+    let Some((entries, looks)) = head_of(format, name, line) else {
         return Ok(Some((Listed::new(alloc), Listed::new(alloc))));
-    }
+    };
     if scenario.players() == 0 {
         return Ok(None);
     }
     feed.go_on(rest);
-    let entries = read_rows::<E>(alloc, scenario, hints, feed)?;
-    let looks = read_rows::<K>(alloc, scenario, hints, feed)?;
+    let Some(entries) = read_rows::<E>(alloc, scenario, hints, entries, feed)? else {
+        return Ok(None);
+    };
+    let Some(looks) = read_rows::<K>(alloc, scenario, hints, looks, feed)? else {
+        return Ok(None);
+    };
     if entries.is_empty() && looks.is_empty() {
         return Ok(None);
     }
@@ -146,18 +168,19 @@ fn read_given<E: Row>(
     alloc: Global,
     scenario: &Scenario,
     hints: &Hints,
+    format: Format,
     need: Need,
     decl: &Decl,
     feed: &mut Feed<'_>,
 ) -> Result<Option<Listed<E>>, NoMemory>
     ensures { let decls = scenario.now.decls in IfOk result (λ read.
         Gives (λ x. x) read feed.new (given_of (is_met need decl.now) []
-        (plain_section_of (has_player decls) (is_head (name_of decl.now)) (E.says decls)) feed.old)) }
+        (plain_section_of (has_player decls) (plain_head_of format (name_of decl.now)) (E.says decls)) feed.old)) }
 {
     if !need.is_met_by(kind_of(decl)) {
         return Ok(Some(Listed::new(alloc)));
     }
-    read_section(alloc, scenario, hints, name_of(decl), feed)
+    read_section(alloc, scenario, hints, format, name_of(decl), feed)
 }
 
 /// The sections of all that meets a need, in declared order.
@@ -165,16 +188,17 @@ pub fn read_family<E: Row>(
     alloc: Global,
     scenario: &Scenario,
     hints: &Hints,
+    format: Format,
     need: Need,
     feed: &mut Feed<'_>,
 ) -> Result<Option<Listed<Listed<E>>>, NoMemory>
     ensures { let decls = scenario.now.decls in IfOk result (λ read.
-        Gives (λ x. x) read feed.new (plain_family_of (is_met need) name_of (has_player decls) is_head (λ d. E.says decls) decls feed.old)) }
+        Gives (λ x. x) read feed.new (plain_family_of (is_met need) name_of (has_player decls) (plain_head_of format) (λ d. E.says decls) decls feed.old)) }
 {
     let mut all = Vec::new(alloc);
     let decls = scenario.decls();
     for decl in decls {
-        match read_given::<E>(alloc, scenario, hints, need, decl, feed)? {
+        match read_given::<E>(alloc, scenario, hints, format, need, decl, feed)? {
             Some(rows) => all.push(rows)?,
             None => return Ok(None),
         }
@@ -187,18 +211,19 @@ fn read_given_looked<E: Row, K: Row>(
     alloc: Global,
     scenario: &Scenario,
     hints: &Hints,
+    format: Format,
     need: Need,
     decl: &Decl,
     feed: &mut Feed<'_>,
 ) -> Result<Option<(Listed<E>, Listed<K>)>, NoMemory>
     ensures { let decls = scenario.now.decls in IfOk result (λ read.
         Gives (λ x. x) read feed.new (given_of (is_met need decl.now) neither
-        (section_of (has_player decls) (is_head (name_of decl.now)) (E.says decls) (K.says decls)) feed.old)) }
+        (section_of (has_player decls) (head_of format (name_of decl.now)) (E.says decls) (K.says decls)) feed.old)) }
 {
     if !need.is_met_by(kind_of(decl)) {
         return Ok(Some((Listed::new(alloc), Listed::new(alloc))));
     }
-    read_looked(alloc, scenario, hints, name_of(decl), feed)
+    read_looked(alloc, scenario, hints, format, name_of(decl), feed)
 }
 
 /// The sections of all that meets a need with rows of two kinds, in declared order.
@@ -206,17 +231,18 @@ pub fn read_looked_family<E: Row, K: Row>(
     alloc: Global,
     scenario: &Scenario,
     hints: &Hints,
+    format: Format,
     need: Need,
     feed: &mut Feed<'_>,
 ) -> Result<Option<Listed<(Listed<E>, Listed<K>)>>, NoMemory>
     ensures { let decls = scenario.now.decls in IfOk result (λ read.
-        Gives (λ x. x) read feed.new (section_family_of (is_met need) name_of (has_player decls) is_head
+        Gives (λ x. x) read feed.new (section_family_of (is_met need) name_of (has_player decls) (head_of format)
         (λ d. E.says decls) (λ d. K.says decls) decls feed.old)) }
 {
     let mut all = Vec::new(alloc);
     let decls = scenario.decls();
     for decl in decls {
-        match read_given_looked::<E, K>(alloc, scenario, hints, need, decl, feed)? {
+        match read_given_looked::<E, K>(alloc, scenario, hints, format, need, decl, feed)? {
             Some(rows) => all.push(rows)?,
             None => return Ok(None),
         }

@@ -1,5 +1,6 @@
 ghost use Rattle.std.specs.Prelude.{◌≡◌, ◌++◌, OnOk, drop};
 ghost use Rattle.std.specs.List.{flat_map};
+ghost use Rattle.zk_trace.specs.declared.format.Format.TheVariants.{Two};
 ghost use Rattle.zk_trace.specs.Text.{section_head, service_section, object_section, object_sections, looked_section, looks_at, looked_object, looked_sections, player_head, player_section, player_sections, answer_line};
 
 use crate::History;
@@ -20,13 +21,13 @@ pub fn put_service<O: Spelled, R: Spelled>(
     entries: &[Entry<O, R>],
 ) -> Result<(), NoMemory>
     ensures text { OnOk result (out.new.put ≡
-        out.old.put ++ service_section O.words R.words scenario.now.decls name.now entries.now) }
+        out.old.put ++ service_section O.words R.words scenario.now.decls Two name.now entries.now) }
     ensures front { out.new.front ≡ out.old.front }
 {
     if entries.is_empty() {
         return Ok(());
     }
-    put_service_head(out, name)?;
+    put_service_head(out, name, entries.len(), 0)?;
     put_lines(out, scenario, entries)
 }
 
@@ -37,7 +38,7 @@ pub fn put_objects<O: Spelled, R: Spelled>(
     histories: &[History<O, R>],
 ) -> Result<(), NoMemory>
     ensures text { OnOk result (out.new.put ≡
-        out.old.put ++ object_sections O.words R.words scenario.now.decls 0 histories.now) }
+        out.old.put ++ object_sections O.words R.words scenario.now.decls Two 0 histories.now) }
     ensures front { out.new.front ≡ out.old.front }
 {
     for (object, history) in histories.iter().enumerate() {
@@ -53,7 +54,7 @@ fn put_object<O: Spelled, R: Spelled>(
     history: &History<O, R>,
 ) -> Result<(), NoMemory>
     ensures text { OnOk result (out.new.put ≡
-        out.old.put ++ object_section O.words R.words scenario.now.decls object history.now) }
+        out.old.put ++ object_section O.words R.words scenario.now.decls Two object history.now) }
     ensures front { out.new.front ≡ out.old.front }
 {
     put_service(
@@ -73,13 +74,13 @@ pub fn put_looked<O: Spelled, R: Spelled, L: Lined>(
     looks: &[L],
 ) -> Result<(), NoMemory>
     ensures text { OnOk result (out.new.put ≡ out.old.put
-        ++ looked_section O.words R.words L.text scenario.now.decls name.now entries.now looks.now) }
+        ++ looked_section O.words R.words L.text scenario.now.decls Two name.now entries.now looks.now) }
     ensures front { out.new.front ≡ out.old.front }
 {
     if entries.is_empty() && looks.is_empty() {
         return Ok(());
     }
-    put_service_head(out, name)?;
+    put_service_head(out, name, entries.len(), looks.len())?;
     put_lines(out, scenario, entries)?;
     put_lines(out, scenario, looks)
 }
@@ -92,7 +93,7 @@ pub fn put_looked_objects<O: Spelled, R: Spelled, L: Lined>(
     looks: &[Listed<L>],
 ) -> Result<(), NoMemory>
     ensures text { OnOk result (out.new.put ≡ out.old.put
-        ++ looked_sections O.words R.words L.text scenario.now.decls looks.now 0 histories.now) }
+        ++ looked_sections O.words R.words L.text scenario.now.decls Two looks.now 0 histories.now) }
     ensures front { out.new.front ≡ out.old.front }
 {
     for (object, history) in histories.iter().enumerate() {
@@ -109,7 +110,7 @@ fn put_looked_object<O: Spelled, R: Spelled, L: Lined>(
     looks: &[Listed<L>],
 ) -> Result<(), NoMemory>
     ensures text { OnOk result (out.new.put ≡ out.old.put
-        ++ looked_object O.words R.words L.text scenario.now.decls looks.now object history.now) }
+        ++ looked_object O.words R.words L.text scenario.now.decls Two looks.now object history.now) }
     ensures front { out.new.front ≡ out.old.front }
 {
     put_looked(
@@ -131,24 +132,34 @@ pub fn looks_at<L>(looks: &[Listed<L>], object: usize) -> &[L]
     }
 }
 
-/// What stands before the name of a service in the head of its section.
-pub const SERVICE: &[u8] = b"service ";
+/// The first word in the head of a service's section.
+pub const SERVICE: &[u8] = b"service";
 
 /// The first word in the head of a player's section.
 pub const PLAYER: &[u8] = b"player";
 
-fn put_service_head(out: &mut Paper, name: &[u8]) -> Result<(), NoMemory>
-    ensures text { OnOk result (out.new.put ≡ out.old.put ++ section_head name.now) }
+fn put_service_head(
+    out: &mut Paper,
+    name: &[u8],
+    entries: usize,
+    looks: usize,
+) -> Result<(), NoMemory>
+    ensures text { OnOk result (out.new.put ≡ out.old.put ++ section_head Two name.now entries looks) }
     ensures front { out.new.front ≡ out.old.front }
 {
     out.put(SERVICE)?;
+    out.put(b" ")?;
     out.put(name)?;
+    out.put(b" ")?;
+    out.put_number(entries as u64)?;
+    out.put(b" ")?;
+    out.put_number(looks as u64)?;
     out.push(b'\n')
 }
 
 /// Appends the sections of all players.
 pub fn put_players(out: &mut Paper, scenario: &Scenario, logs: &[Log]) -> Result<(), NoMemory>
-    ensures text { OnOk result (out.new.put ≡ out.old.put ++ player_sections scenario.now.decls 0 logs.now) }
+    ensures text { OnOk result (out.new.put ≡ out.old.put ++ player_sections Two scenario.now.decls 0 logs.now) }
     ensures front { out.new.front ≡ out.old.front }
 {
     for (player, log) in logs.iter().enumerate() {
@@ -163,10 +174,15 @@ fn put_player(
     player: usize,
     log: &Log,
 ) -> Result<(), NoMemory>
-    ensures text { OnOk result (out.new.put ≡ out.old.put ++ player_section scenario.now.decls player log.now) }
+    ensures text { OnOk result (out.new.put ≡ out.old.put ++ player_section Two scenario.now.decls player log.now) }
     ensures front { out.new.front ≡ out.old.front }
 {
-    put_player_head(out, player_name(scenario, player), log.state)?;
+    put_player_head(
+        out,
+        player_name(scenario, player),
+        log.state,
+        log.answers.len(),
+    )?;
     put_answers(out, scenario, &log.answers)
 }
 
@@ -183,8 +199,13 @@ fn put_answers(out: &mut Paper, scenario: &Scenario, answers: &Answers) -> Resul
     Ok(())
 }
 
-fn put_player_head(out: &mut Paper, name: &[u8], state: PlayerState) -> Result<(), NoMemory>
-    ensures text { OnOk result (out.new.put ≡ out.old.put ++ player_head name.now state) }
+fn put_player_head(
+    out: &mut Paper,
+    name: &[u8],
+    state: PlayerState,
+    answers: usize,
+) -> Result<(), NoMemory>
+    ensures text { OnOk result (out.new.put ≡ out.old.put ++ player_head Two name.now state answers) }
     ensures front { out.new.front ≡ out.old.front }
 {
     out.put(PLAYER)?;
@@ -192,5 +213,7 @@ fn put_player_head(out: &mut Paper, name: &[u8], state: PlayerState) -> Result<(
     out.put(name)?;
     out.put(b" ")?;
     out.put(state_word(state))?;
+    out.put(b" ")?;
+    out.put_number(answers as u64)?;
     out.push(b'\n')
 }

@@ -146,8 +146,8 @@ impl Sizes for Trace {
         self.signals.sizes();
         self.chans.sizes();
         self.observers.sizes();
-        self.item_looks.sizes();
-        self.signal_looks.sizes();
+        self.looks.items.sizes();
+        self.looks.signals.sizes();
         self.logs.sizes();
     }
 }

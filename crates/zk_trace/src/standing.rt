@@ -134,7 +134,7 @@ pub fn stood_lines(alloc: Global, trace: &Trace) -> Result<Vec<Stood>, NoMemory>
 {
     let mut lines = Vec::new(alloc);
     put_entries(&mut lines, Home::Work, trace.work.items())?;
-    put_item_looks(&mut lines, trace.item_looks.items())?;
+    put_item_looks(&mut lines, trace.looks.items.items())?;
     put_entries(&mut lines, Home::Clock, trace.clock.items())?;
     put_entries(&mut lines, Home::Table, trace.table.items())?;
     put_histories(&mut lines, Family::Sem, trace.sems.items())?;
@@ -142,7 +142,7 @@ pub fn stood_lines(alloc: Global, trace: &Trace) -> Result<Vec<Stood>, NoMemory>
     put_signals(
         &mut lines,
         trace.signals.items(),
-        trace.signal_looks.items(),
+        trace.looks.signals.items(),
     )?;
     put_histories(&mut lines, Family::Chan, trace.chans.items())?;
     put_histories(&mut lines, Family::Obs, trace.observers.items())?;

@@ -1,4 +1,4 @@
-use crate::looks::{ItemLooks, SignalLooks};
+use crate::looks::Looks;
 use zk_base::{Entry, Listed};
 use zk_model_bus::{ChanOp, ChanReply, ObsOp, ObsReply, TableOp, TableReply};
 use zk_model_wait::{
@@ -48,10 +48,8 @@ pub struct Trace {
     pub chans: Histories<ChanOp, ChanReply>,
     /// The histories of the observers: the listeners and the subscribers.
     pub observers: Histories<ObsOp, ObsReply>,
-    /// The looks at items.
-    pub item_looks: ItemLooks,
-    /// The looks at signals.
-    pub signal_looks: SignalLooks,
+    /// What players saw without an entry.
+    pub looks: Looks,
     /// The log of each player.
     pub logs: Logs,
 }

@@ -6,7 +6,7 @@ ghost use Rattle.zk_trace.specs.WholeRead.{trace_with, trace_of};
 
 use crate::Trace;
 use crate::logs_read::read_logs;
-use crate::looks::SignalLooks;
+use crate::looks::{Looks, SignalLooks};
 use crate::trace::{Ending, Histories};
 use crate::whole_read::{Families, SignalLines, Singles, Whole};
 use std::alloc::Global;
@@ -42,7 +42,7 @@ fn without_logs(
 {
     let Singles {
         work,
-        item_looks,
+        item_looks: items,
         clock,
         table,
     } = singles;
@@ -53,7 +53,7 @@ fn without_logs(
         chans,
         observers,
     } = families;
-    let (signals, signal_looks) = parted(alloc, signals)?;
+    let (signals, seen) = parted(alloc, signals)?;
     Ok(Trace {
         ending,
         work,
@@ -64,8 +64,10 @@ fn without_logs(
         signals,
         chans,
         observers,
-        item_looks,
-        signal_looks,
+        looks: Looks {
+            items,
+            signals: seen,
+        },
         logs: Listed::new(alloc),
     })
 }
@@ -77,6 +79,7 @@ pub fn trace_of(alloc: Global, scenario: &Scenario, whole: Whole) -> Result<Trac
     ensures { IfOk result (λ trace. trace ≡ trace_of (parts_of whole)) }
 {
     let Whole {
+        format: _,
         ending,
         singles,
         families,

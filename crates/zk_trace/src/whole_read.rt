@@ -1,14 +1,15 @@
 ghost use Rattle.std.specs.Prelude.{◌≡◌, IfOk};
 ghost use Rattle.zk_blocks.specs.Blocks.{Gives, line_of};
 ghost use Rattle.zk_trace.specs.WholeParts.{singles_of, families_of, parts_of};
-ghost use Rattle.zk_trace.specs.WholeRead.{first_of, ending_of, read_singles, read_signals, read_families, read_whole};
+ghost use Rattle.zk_trace.specs.WholeRead.{where_read, first_of, ending_of, read_singles, read_signals, read_families, read_whole};
 
 use crate::entry_read::Asked;
 use crate::feed::Feed;
+use crate::format::{Format, Formats, format_of, reads};
 use crate::hints::Hints;
 use crate::looks::{ItemLook, ItemLooks, SignalLook};
 use crate::players_read::read_players;
-use crate::print::{CLOCK, FIRST, TABLE, WORK};
+use crate::print::{CLOCK, TABLE, WORK};
 use crate::rows_read::{read_family, read_looked, read_looked_family, read_section};
 use crate::trace::{Ending, Histories, History};
 use crate::words::ending_word;
@@ -59,6 +60,8 @@ pub type Players = Listed<(PlayerState, Answers)>;
 /// All that stands in the text of a trace.
 #[derive(Drop)]
 pub struct Whole {
+    /// How it is written.
+    pub format: Format,
     /// How the run ended.
     pub ending: Ending,
     /// The services of which there is one.
@@ -73,24 +76,25 @@ fn read_singles(
     alloc: Global,
     scenario: &Scenario,
     hints: &Hints,
+    format: Format,
     feed: &mut Feed<'_>,
 ) -> Result<Option<Singles>, NoMemory>
-    ensures { IfOk result (λ read. Gives singles_of read feed.new (read_singles scenario.now.decls feed.old)) }
+    ensures { IfOk result (λ read. Gives singles_of read feed.new (read_singles format scenario.now.decls feed.old)) }
 {
     let Some((work, item_looks)) = read_looked::<Entry<WorkOp, WorkReply>, ItemLook>(
-        alloc, scenario, hints, WORK, feed,
+        alloc, scenario, hints, format, WORK, feed,
     )?
     else {
         return Ok(None);
     };
     let Some(clock) = read_section::<Entry<ClockOp, ClockReply>>(
-        alloc, scenario, hints, CLOCK, feed,
+        alloc, scenario, hints, format, CLOCK, feed,
     )?
     else {
         return Ok(None);
     };
     let Some(table) = read_section::<Entry<TableOp, TableReply>>(
-        alloc, scenario, hints, TABLE, feed,
+        alloc, scenario, hints, format, TABLE, feed,
     )?
     else {
         return Ok(None);
@@ -107,11 +111,19 @@ fn read_families(
     alloc: Global,
     scenario: &Scenario,
     hints: &Hints,
+    format: Format,
     feed: &mut Feed<'_>,
 ) -> Result<Option<Families>, NoMemory>
-    ensures { IfOk result (λ read. Gives families_of read feed.new (read_families scenario.now.decls feed.old)) }
+    ensures { IfOk result (λ read. Gives families_of read feed.new (read_families format scenario.now.decls feed.old)) }
 {
-    let Some(sems) = read_family::<Entry<SemOp, SemReply>>(alloc, scenario, hints, Need::Sem, feed)?
+    let Some(sems) = read_family::<Entry<SemOp, SemReply>>(
+        alloc,
+        scenario,
+        hints,
+        format,
+        Need::Sem,
+        feed,
+    )?
     else {
         return Ok(None);
     };
@@ -119,19 +131,21 @@ fn read_families(
         alloc,
         scenario,
         hints,
+        format,
         Need::Msgq,
         feed,
     )?
     else {
         return Ok(None);
     };
-    let Some(signals) = read_signals(alloc, scenario, hints, feed)? else {
+    let Some(signals) = read_signals(alloc, scenario, hints, format, feed)? else {
         return Ok(None);
     };
     let Some(chans) = read_family::<Entry<ChanOp, ChanReply>>(
         alloc,
         scenario,
         hints,
+        format,
         Need::Chan,
         feed,
     )?
@@ -142,6 +156,7 @@ fn read_families(
         alloc,
         scenario,
         hints,
+        format,
         Need::Obs,
         feed,
     )?
@@ -161,29 +176,47 @@ fn read_signals(
     alloc: Global,
     scenario: &Scenario,
     hints: &Hints,
+    format: Format,
     feed: &mut Feed<'_>,
 ) -> Result<Option<Listed<SignalLines>>, NoMemory>
-    ensures { IfOk result (λ read. Gives (λ x. x) read feed.new (read_signals scenario.now.decls feed.old)) }
+    ensures { IfOk result (λ read. Gives (λ x. x) read feed.new (read_signals format scenario.now.decls feed.old)) }
 {
     read_looked_family::<Entry<SignalOp, SignalReply>, SignalLook>(
         alloc,
         scenario,
         hints,
+        format,
         Need::Signal,
         feed,
     )
 }
 
+/// A format, where it is read.
+fn where_read(formats: Formats, scenario: &Scenario, format: Format) -> Option<Format>
+    ensures { result ≡ where_read formats scenario.now.decls format }
+{
+    if reads(formats, scenario.players(), format) {
+        Some(format)
+    } else {
+        None
+    }
+}
+
+/// The format that a first line says, where it is read.
+fn first_of(formats: Formats, scenario: &Scenario, row: &[u8]) -> Option<Format>
+    ensures { result ≡ first_of formats scenario.now.decls row.now }
+{
+    where_read(formats, scenario, format_of(row)?)
+}
+
 /// The first line.
-fn read_first(feed: &mut Feed<'_>) -> Option<()>
-    ensures { Gives (λ u. u) result feed.new (line_of first_of feed.old) }
+fn read_first(formats: Formats, scenario: &Scenario, feed: &mut Feed<'_>) -> Option<Format>
+    ensures { Gives (λ format. format) result feed.new (line_of (first_of formats scenario.now.decls) feed.old) }
 {
     let (line, rest) = feed.next()?;
-    if line != FIRST {
-        return None;
-    }
+    let format = first_of(formats, scenario, line)?;
     feed.go_on(rest);
-    Some(())
+    Some(format)
 }
 
 /// How runs can end.
@@ -213,26 +246,28 @@ pub fn read_whole(
     alloc: Global,
     scenario: &Scenario,
     hints: &Hints,
+    formats: Formats,
     feed: &mut Feed<'_>,
 ) -> Result<Option<Whole>, NoMemory>
-    ensures { IfOk result (λ read. Gives parts_of read feed.new (read_whole scenario.now.decls feed.old)) }
+    ensures { IfOk result (λ read. Gives parts_of read feed.new (read_whole formats scenario.now.decls feed.old)) }
 {
-    let Some(()) = read_first(feed) else {
+    let Some(format) = read_first(formats, scenario, feed) else {
         return Ok(None);
     };
     let Some(ending) = read_ending(feed) else {
         return Ok(None);
     };
-    let Some(singles) = read_singles(alloc, scenario, hints, feed)? else {
+    let Some(singles) = read_singles(alloc, scenario, hints, format, feed)? else {
         return Ok(None);
     };
-    let Some(families) = read_families(alloc, scenario, hints, feed)? else {
+    let Some(families) = read_families(alloc, scenario, hints, format, feed)? else {
         return Ok(None);
     };
-    let Some(players) = read_players(alloc, scenario, hints, feed)? else {
+    let Some(players) = read_players(alloc, scenario, hints, format, feed)? else {
         return Ok(None);
     };
     Ok(Some(Whole {
+        format,
         ending,
         singles,
         families,

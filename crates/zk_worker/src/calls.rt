@@ -30,6 +30,16 @@ fn closing_step(closing: Closing, place: u64) -> Step
     }
 }
 
+/// The attempt of this index of a call that makes one step.
+fn one(step: &Step, stage: &Stage, index: u32) -> Option<Step>
+    ensures { result ≡ slice_get (plan_attempts (Plan.One step.now) stage.now) index }
+{
+    match stage {
+        Stage::Start if index == 0 => Some(*step),
+        _ => None,
+    }
+}
+
 /// The attempt of this index of a call that makes a step and perhaps the one that ends its wait.
 fn pair(opening: &Step, closing: Closing, stage: &Stage, index: u32) -> Option<Step>
     ensures { result ≡ slice_get (plan_attempts (Plan.Pair opening.now closing) stage.now) index }
@@ -336,17 +346,6 @@ fn only_step(scenario: &Scenario, call: &Call) -> Step
     }
 }
 
-/// A call that makes one step: its first attempt is that, and there is no other.
-fn only_ahead(scenario: &Scenario, call: &Call, stage: &Stage, index: u32, ahead: &mut Option<Step>)
-    requires { makes_one call.now ≡ true }
-    ensures { ahead.new ≡ slice_get (plan_attempts (plan_of scenario.now.decls call.now) stage.now) index }
-{
-    *ahead = match stage {
-        Stage::Start if index == 0 => Some(only_step(scenario, call)),
-        _ => None,
-    };
-}
-
 /// Puts the attempt of this index among the next attempts of a call.
 // No plan is made of the call, since that would be moved about, and is large.
 pub fn call_ahead(
@@ -376,7 +375,7 @@ pub fn call_ahead(
         ),
         Call::Notify(chan, timeout) => notify(*chan, *timeout, stage, index, ahead),
         Call::Read(chan, timeout) => read(*chan, *timeout, stage, index, ahead),
-        _ => only_ahead(scenario, call, stage, index, ahead),
+        _ => *ahead = one(&only_step(scenario, call), stage, index),
     }
 }
 

@@ -31,7 +31,7 @@ use Rattle.zk_worker.proofs.ShownSteps.{made-more, log-answered, log-others, unl
 use Rattle.zk_worker.proofs.Looking.{looks-stepped, looks-others, reads-whole}
 use Rattle.zk_worker.proofs.Following.{following-still, following-more}
 use Rattle.zk_worker.proofs.Lists.{slice_get-set, sum-set}
-use Rattle.zk_services.specs.Looks as looks
+use Rattle.zk_gathering.specs.Looks as looks
 use Rattle.zk_world.specs.Chosen.{IsChosen}
 use Rattle.zk_world.specs.Ready.{IsReady, left, all_left, most_shown}
 use Rattle.zk_world.specs.World.{World, stepped}

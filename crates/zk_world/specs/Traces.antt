@@ -14,7 +14,7 @@ use Rattle.zk_trace.specs.History.{AreLegal}
 use Rattle.zk_trace.specs.Log.{AreLogged}
 use Rattle.zk_trace.specs.Look.{AreRight}
 use Rattle.zk_trace.specs.Place.{IsPlaced}
-use Rattle.zk_services.specs.Gathered.{gathered}
+use Rattle.zk_gathering.specs.Gathered.{gathered}
 use Rattle.zk_world.specs.World.{World, is_spent}
 
 -- each thread is through its script or was ended by an oops, and each worker is between two runs

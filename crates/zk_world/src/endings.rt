@@ -6,8 +6,9 @@ ghost use Rattle.zk_services.specs.Alone.{plain_machines, plain_shown};
 ghost use Rattle.zk_world.specs.Traces.{all_done, ending_at};
 ghost use Rattle.zk_world.specs.World.{world};
 
+use zk_gathering::none_waits;
 use zk_scenario::Scenario;
-use zk_services::{Plain, none_waits};
+use zk_services::Plain;
 use zk_trace::Ending;
 use zk_worker::Player;
 

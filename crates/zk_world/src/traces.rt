@@ -7,8 +7,9 @@ ghost use Rattle.zk_world.specs.World.{world};
 
 use std::alloc::Global;
 use zk_base::NoMemory;
+use zk_gathering::gather;
 use zk_scenario::Scenario;
-use zk_services::{Plain, gather};
+use zk_services::Plain;
 use zk_trace::{Ending, Trace, trace_sizes};
 use zk_worker::Player;
 

@@ -14,6 +14,10 @@ pub returns-in-Some-Check-clause-went : goal.returns-in-Some-Check-clause-went
 returns-in-Some-Check-clause-went g c =
     Went-for _ _ _ _ _ _ _ _ _ _ _ (sym c.form_of.ensures ∙ c.in-Some-Check.is ∙ ap Some c.in-Some-Check.field-0-is) c.answer_check.ensures.went
 
+pub returns-in-Some-Migrate-clause-went : goal.returns-in-Some-Migrate-clause-went
+returns-in-Some-Migrate-clause-went g c =
+    Went-for _ _ _ _ _ _ _ _ _ _ _ (sym c.form_of.ensures ∙ c.in-Some-Migrate.is ∙ ap Some c.in-Some-Migrate.field-0-is) c.answer_migrate.ensures.went
+
 pub returns-in-Some-Soak-clause-went : goal.returns-in-Some-Soak-clause-went
 returns-in-Some-Soak-clause-went g c =
     Went-soaked _ _ _ _ _ _ _ _ c.in-Some-Soak.number [] (sym c.form_of.ensures ∙ c.in-Some-Soak.is ∙ ap Some c.in-Some-Soak.field-0-is)
@@ -29,6 +33,10 @@ returns-in-Some-Replay-clause-most g c =
 pub returns-in-Some-Check-clause-most : goal.returns-in-Some-Check-clause-most
 returns-in-Some-Check-clause-most g c =
     taken-for _ _ _ _ (sym c.form_of.ensures ∙ c.in-Some-Check.is ∙ ap Some c.in-Some-Check.field-0-is) c.answer_check.ensures.most
+
+pub returns-in-Some-Migrate-clause-most : goal.returns-in-Some-Migrate-clause-most
+returns-in-Some-Migrate-clause-most g c =
+    taken-for _ _ _ _ (sym c.form_of.ensures ∙ c.in-Some-Migrate.is ∙ ap Some c.in-Some-Migrate.field-0-is) c.answer_migrate.ensures.most
 
 pub returns-in-Some-Soak-clause-most : goal.returns-in-Some-Soak-clause-most
 returns-in-Some-Soak-clause-most g c =

@@ -82,8 +82,8 @@ overflow_add-result-in-Some-3 c =
     let queued = c.line_count.ensures ∙ ap (λ l. line_count [] 0 l) c.items-4.ensures in
     let signals = subst (λ l. FirstAmong m.signals.machine l 0 m.signals.starts t.signals c.in_ok-row-3.field-0) c.items-looks.ensures
     (subst (λ l. FirstAmong m.signals.machine c.items-looks.result.now 0 m.signals.starts l c.in_ok-row-3.field-0) c.items-5.ensures c.in_ok-row-3.ensures.found) in
-    let within = among-within m.signals.machine t.signal_looks 0 m.signals.starts t.signals c.in-Some-3.row
-    (subst (FirstAmong m.signals.machine t.signal_looks 0 m.signals.starts t.signals) c.in-Some-3.is signals) in
+    let within = among-within m.signals.machine t.looks.signals 0 m.signals.starts t.signals c.in-Some-3.row
+    (subst (FirstAmong m.signals.machine t.looks.signals 0 m.signals.starts t.signals) c.in-Some-3.is signals) in
     omega arith
 
 pub returns-in-Some-3-clause-found : goal.returns-in-Some-3-clause-found
@@ -98,4 +98,4 @@ returns-in-Some-3-clause-found c =
     (subst (λ l. FirstAmong m.signals.machine c.items-looks.result.now 0 m.signals.starts l c.in_ok-row-3.field-0) c.items-5.ensures c.in_ok-row-3.ensures.found) in
     signals-first m t (c.line_count-lines.result + c.line_count.result + c.in-Some-3.row) c.in-Some-3.row (subst (FirstAmong m.sems.machine [] 0 m.sems.starts t.sems) c.in_default.is sems)
     (subst (FirstAmong m.msgqs.machine [] 0 m.msgqs.starts t.msgqs) c.in_default-2.is msgqs) (omega arith)
-    (subst (FirstAmong m.signals.machine t.signal_looks 0 m.signals.starts t.signals) c.in-Some-3.is signals)
+    (subst (FirstAmong m.signals.machine t.looks.signals 0 m.signals.starts t.signals) c.in-Some-3.is signals)

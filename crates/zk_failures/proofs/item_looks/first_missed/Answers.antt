@@ -30,4 +30,4 @@ returns c =
     ∙ ap (λ (l : List (Option ℕ)). missed_places (work_start_of s) l c.items-2.result.now c.deref-2.result.now) items
     ∙ ap (λ (h : List (Entry WorkOp WorkReply)). missed_places (work_start_of s) (items_of s.decls) h c.deref-2.result.now) c.items-2.ensures
     ∙ ap (λ (f : List Fronted). missed_places (work_start_of s) (items_of s.decls) t.work f) fronts in
-    first-told (work_start_of s) (items_of s.decls) t.work t.item_looks c.deref-3.result.now c.lowest.result places c.lowest.ensures
+    first-told (work_start_of s) (items_of s.decls) t.work t.looks.items c.deref-3.result.now c.lowest.result places c.lowest.ensures

@@ -2,7 +2,6 @@ use Rattle.std.proofs.Common.{◌≡◌, Option, Some, None, sym, subst, ◌∙�
 use Rattle.std.specs.Prelude.{MatchOption}
 use Rattle.std.proofs.lemmas.Bool.{false≢true}
 use Rattle.zk_scenario.specs.Content.{Content}
-use Rattle.zk_worker.specs.Places.{PlayerPlace}
 use Rattle.zk_trace.specs.declared.trace.Trace.{Trace}
 use Rattle.zk_trace.specs.Ending.{EndsSo}
 use Rattle.zk_trace.specs.Form.{IsInForm}

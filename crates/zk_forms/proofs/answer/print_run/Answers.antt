@@ -16,6 +16,7 @@ use Rattle.zk_model_bus.specs.Table.{new_table, table_machine}
 use Rattle.zk_model_work.specs.Machine.{work_machine}
 use Rattle.zk_worker.specs.Machines.{work_start_of, machines_of}
 use Rattle.zk_worker.specs.TableSetup.{setup_of}
+use Rattle.zk_trace.specs.declared.format.Format.TheVariants.{Two}
 use Rattle.zk_trace.specs.Text.{trace_text}
 use Rattle.zk_trace.proofs.LegalHistories.{histories-legal}
 use Rattle.zk_world.proofs.Legality.{legal-one}
@@ -97,5 +98,5 @@ returns-clause-prints c =
       plays = plays-kept c.args.scenario.now trace c.requires.valid c.requires.lawful;
       told = players-told c.args.scenario.now trace c.requires.lawful;
       over = c.requires.over;
-      printed = c.in_ok-put_trace.ensures.text ∙ ap (λ (text : List ℕ). text ++ trace_text c.args.scenario.now trace) c.requires.spelled;
+      printed = c.in_ok-put_trace.ensures.text ∙ ap (λ (text : List ℕ). text ++ trace_text Two c.args.scenario.now trace) c.requires.spelled;
     }

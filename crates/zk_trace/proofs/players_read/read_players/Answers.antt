@@ -25,7 +25,7 @@ returns-in-None c =
     let player = c.loop-player.player in
     let count = c.players-player-end.result in
     let read = rw c.in-None.is at c.in_ok-one.ensures in
-    each_less (read_player decls) (player_numbers decls) player c.loop-player.all.items c.args.feed.now c.loop-player.feed c.read_player.new.feed c.loop-player.invariant
+    each_less (read_player c.args.format decls) (player_numbers decls) player c.loop-player.all.items c.args.feed.now c.loop-player.feed c.read_player.new.feed c.loop-player.invariant
     player (within decls player count c.players-player-end.ensures c.loop-player-test.true) (there decls player count c.players-player-end.ensures c.loop-player-test.true) read
 
 pub loop-player-preserved : goal.loop-player-preserved
@@ -35,7 +35,7 @@ loop-player-preserved c =
     let count = c.players-player-end.result in
     let read = rw c.in-Some.is at c.in_ok-one.ensures in
     rw c.in_ok-push-in-Some.ensures.items
-    (each_more (read_player decls) (player_numbers decls) player player c.loop-player.all.items c.in-Some.one c.args.feed.now c.loop-player.feed c.read_player.new.feed
+    (each_more (read_player c.args.format decls) (player_numbers decls) player player c.loop-player.all.items c.in-Some.one c.args.feed.now c.loop-player.feed c.read_player.new.feed
     (within decls player count c.players-player-end.ensures c.loop-player-test.true) (there decls player count c.players-player-end.ensures c.loop-player-test.true) c.loop-player.invariant read)
 
 pub returns : goal.returns
@@ -43,5 +43,5 @@ returns c =
     let decls = c.args.scenario.now.decls in
     let player = c.loop-player.player in
     rw c.from_vec.ensures
-    (each_end (read_player decls) (player_numbers decls) player c.loop-player.all.items c.args.feed.now c.loop-player.feed c.loop-player.feed c.loop-player.invariant
+    (each_end (read_player c.args.format decls) (player_numbers decls) player c.loop-player.all.items c.args.feed.now c.loop-player.feed c.loop-player.feed c.loop-player.invariant
     (past decls player c.players-player-end.result c.players-player-end.ensures c.loop-player-test.false))

@@ -8,4 +8,4 @@ use Rattle.zk_trace.proofs.players_read.read_players.Given as goal
 abbrev pub invariant-loop-player : goal.invariant-loop-player
 invariant-loop-player l =
     let decls = l.scenario.decls in
-    read_players decls l.fn.feed ≡ made_of (put_front l.all.items) (each_of (read_player decls) (drop l.player (player_numbers decls)) l.feed)
+    read_players l.format decls l.fn.feed ≡ made_of (put_front l.all.items) (each_of (read_player l.format decls) (drop l.player (player_numbers decls)) l.feed)

@@ -1,7 +1,7 @@
 use Rattle.zk_blocks.specs.Blocks.{given_of}
 use Rattle.zk_blocks.specs.Sections.{section_of, neither}
 use Rattle.zk_line.specs.Objects.{is_met, name_of}
-use Rattle.zk_trace.specs.SectionRead.{is_head, has_player}
+use Rattle.zk_trace.specs.SectionRead.{head_of, has_player}
 use Rattle.zk_trace.proofs.RowsRead.{each_more}
 use Rattle.zk_trace.proofs.rows_read.read_looked_family.Goals as goal
 
@@ -10,6 +10,6 @@ loop-decl-preserved g c =
     let decls = c.args.scenario.now.decls in
     let read = rw c.in-Some.is at c.in_ok-rows.ensures in
     rw c.in_ok-push-in-Some.ensures.items
-    (each_more (λ d. given_of (is_met c.args.need d) neither (section_of (has_player decls) (is_head (name_of d)) (g.E.Row.says decls) (g.K.Row.says decls)))
+    (each_more (λ d. given_of (is_met c.args.need d) neither (section_of (has_player decls) (head_of c.args.format (name_of d)) (g.E.Row.says decls) (g.K.Row.says decls)))
     c.decls-decls.result.now c.loop-decl.decl-index c.decl-item.result c.loop-decl.all.items c.in-Some.rows
     c.args.feed.now c.loop-decl.feed c.read_given_looked.new.feed c.loop-decl-test.true c.decl-item.is c.loop-decl.invariant read)

@@ -3,11 +3,11 @@ use Rattle.zk_blocks.specs.Blocks.{made_of}
 use Rattle.zk_blocks.specs.Each.{put_front}
 use Rattle.zk_blocks.specs.Families.{section_family_of}
 use Rattle.zk_line.specs.Objects.{is_met, name_of}
-use Rattle.zk_trace.specs.SectionRead.{is_head, has_player}
+use Rattle.zk_trace.specs.SectionRead.{head_of, has_player}
 use Rattle.zk_trace.proofs.rows_read.read_looked_family.Given as goal
 
 abbrev pub invariant-loop-decl : goal.invariant-loop-decl
 invariant-loop-decl g l =
     let decls = l.scenario.decls in
-    let family = section_family_of (is_met l.need) name_of (has_player decls) is_head (λ d. g.E.Row.says decls) (λ d. g.K.Row.says decls) in
+    let family = section_family_of (is_met l.need) name_of (has_player decls) (head_of l.format) (λ d. g.E.Row.says decls) (λ d. g.K.Row.says decls) in
     family l.decls l.fn.feed ≡ made_of (put_front l.all.items) (family (drop l.decl-index l.decls) l.feed)

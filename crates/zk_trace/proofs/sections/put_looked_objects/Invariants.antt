@@ -1,10 +1,11 @@
 use Rattle.std.proofs.Common.{◌≡◌, ◌++◌, drop}
+use Rattle.zk_trace.specs.declared.format.Format.TheVariants.{Two}
 use Rattle.zk_trace.specs.Text.{looked_sections}
 use Rattle.zk_trace.proofs.sections.put_looked_objects.Given as goal
 
 abbrev pub invariant-loop-object : goal.invariant-loop-object
 invariant-loop-object g l = record {
-  text : l.out.put ++ looked_sections g.O.Spelled.words g.R.Spelled.words g.L.Lined.text l.scenario.decls l.looks l.object (drop l.object l.histories)
-      ≡ l.initial.out.put ++ looked_sections g.O.Spelled.words g.R.Spelled.words g.L.Lined.text l.scenario.decls l.looks 0 l.histories;
+  text : l.out.put ++ looked_sections g.O.Spelled.words g.R.Spelled.words g.L.Lined.text l.scenario.decls Two l.looks l.object (drop l.object l.histories)
+      ≡ l.initial.out.put ++ looked_sections g.O.Spelled.words g.R.Spelled.words g.L.Lined.text l.scenario.decls Two l.looks 0 l.histories;
   front : l.out.front ≡ l.initial.out.front;
 }

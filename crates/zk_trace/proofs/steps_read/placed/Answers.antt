@@ -1,4 +1,4 @@
-use Rattle.std.proofs.Common.{◌≡◌, ℕ, None, length, get_or, map, replicate, ap, ◌∙◌}
+use Rattle.std.proofs.Common.{ℕ, None, length, get_or, replicate, ap, ◌∙◌}
 use Rattle.std.proofs.lemmas.List.{length-map, get_or_default}
 use Rattle.zk_worker.specs.declared.steps.Spot.TheVariants.{Work}
 use Rattle.zk_trace.specs.declared.stood.Stood.{Stood}
