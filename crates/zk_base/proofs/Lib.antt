@@ -12,6 +12,8 @@ pub mod SlotsEnded
 pub mod SlotsFound
 pub mod SlotsListed
 pub mod SlotsKept
+pub mod SlotsServed
+pub mod SlotsTested
 pub mod SlotWaits
 pub mod WaitDecisions
 pub mod WaitMoves

@@ -1,5 +1,5 @@
 -- What a list of kept waits says of who waits and of what is decided, and how that changes.
-use Rattle.std.proofs.Common.{◌≡◌, ℕ, suc, ◌<◌, ◌≤◌, ◌⊎◌, inl, inr, ℤ, Bool, true, false, not, ◌&&◌, ◌||◌, cond, eqb, ltb, Option, Some, None, is_some, option_map, List, [], ◌∷◌, ◌++◌, length, map, filter, filter_map, find, slice_get, drop, All, refl, sym, ap, subst, ◌∙◌, arith}
+use Rattle.std.proofs.Common.{◌≡◌, ℕ, suc, ◌<◌, ◌≤◌, ◌⊎◌, inl, inr, ℤ, Bool, true, false, not, ◌&&◌, ◌||◌, cond, eqb, ltb, Option, Some, None, is_some, option_map, List, [], ◌∷◌, ◌++◌, length, map, filter, filter_map, find, slice_get, get_or, drop, All, refl, sym, ap, subst, ◌∙◌, arith}
 use Rattle.std.specs.Prelude.{int_lt}
 use Rattle.std.specs.Cmp.{first_so, second_so}
 use Rattle.std.specs.List.{list_any, cons_option}
@@ -16,9 +16,10 @@ use Rattle.zk_base.specs.declared.slots.Stage.{Stage}
 use Rattle.zk_base.specs.declared.slots.Stage.TheVariants.{Waits, Decided, Ended}
 use Rattle.zk_base.specs.Lists.{put_before, without_first}
 use Rattle.zk_base.specs.Order.{put_by, put_all_by, by_key, Ascends}
-use Rattle.zk_base.specs.Waits.{Waits as AllWaits, is_served_after, is_waiter, is_decision, decide, decision_of, goes_on, joined, left, ended, all_decided, first_decided}
-use Rattle.zk_base.specs.Slots.{IsPriority, rank_of, place_of, goes_on_at, is_open_at, answer_at, is_waiting, is_open, has_answer, decision_in, answer_for, IsRanked, over, decided_as, decided_all, line, told, waits_in, waits_as, leads, IsClosedUp}
-use Rattle.zk_base.proofs.Order.{Ascends-put_by, by_key-snoc, All-by_key, length-by_key, map-by_key, filter-by_key, by_key-ascending, find-filter, filter_all, filter_none}
+use Rattle.zk_base.specs.Waits.{Waits as AllWaits, is_served_after, is_waiter, is_decision, decide, decision_of, goes_on, joined, left, ended, says, is_left, decided_by, decisions_by, all_decided, each_decided, first_decided}
+use Rattle.zk_base.specs.Slots.{IsPriority, rank_of, place_of, goes_on_at, is_open_at, answer_at, is_waiting, is_open, has_answer, decision_in, answer_for, IsRanked, over, decided_as, decided_with, decided_where, decided_all, answer_by, line, told, waits_in, waits_as, leads, IsClosedUp}
+use Rattle.zk_base.proofs.Order.{Ascends-put_by, by_key-snoc, All-by_key, length-by_key, map-by_key, filter-by_key, by_key-ascending, find-filter, filter_none}
+use Rattle.zk_base.proofs.WaitTests.{decisions-alike}
 use Rattle.zk_base.proofs.SlotLists.{all-of-filter, filters-swap, filter-weaker, filter-not, found-passes, found-alone, ascending-parts, Ascends-same, find-through, without-through, without-absent, map-some}
 
 -- priorities and their ranks
@@ -323,12 +324,19 @@ module _ {M A : Type 0} where
 
   -- Some who wait are decided.
 
-  module _ (u : Slot M A → Bool) (n : ℕ) (answer : A) where
+  module _ (mark : Slot M A → Option A) (n : ℕ) where
     abbrev marked : Slot M A → Slot M A
-    marked s = cond (u s) (decided_as n answer s) s
+    marked s = decided_with n (mark s) s
+
+    abbrev hit : Slot M A → Bool
+    hit s = is_some (mark s)
 
     abbrev stays : Slot M A → Bool
-    stays s = not (u s)
+    stays s = not (is_some (mark s))
+
+    -- it is one who waits
+    abbrev WhereWaiting : Slot M A → Type 0
+    WhereWaiting s = is_some (mark s) ≡ true → is_waiting s ≡ true
 
     abbrev older : Slot M A → Bool
     older s = ltb s.number n
@@ -336,25 +344,25 @@ module _ {M A : Type 0} where
     abbrev newer : Slot M A → Bool
     newer s = not (ltb s.number n)
 
-    still : (ss : List (Slot M A)) → All (λ s. u s ≡ true → is_waiting s ≡ true) ss →
+    still : (ss : List (Slot M A)) → All WhereWaiting ss →
         filter is_waiting (map marked ss) ≡ filter stays (filter is_waiting ss)
     still [] all = refl
-    still (s ∷ ss) all = by (u s) (is_waiting s) refl refl (All-head (λ s. u s ≡ true → is_waiting s ≡ true) s ss all)
-        (still ss (All-tail (λ s. u s ≡ true → is_waiting s ≡ true) s ss all)) where
+    still (s ∷ ss) all = by (mark s) (is_waiting s) refl refl (All-head WhereWaiting s ss all)
+        (still ss (All-tail WhereWaiting s ss all)) where
           after : List (Slot M A)
           after = filter is_waiting (map marked ss)
 
           kept : List (Slot M A)
           kept = filter stays (filter is_waiting ss)
 
-          by : (b c : Bool) → u s ≡ b → is_waiting s ≡ c → (u s ≡ true → is_waiting s ≡ true) → after ≡ kept →
-              cond (is_waiting (cond b (decided_as n answer s) s)) (cond b (decided_as n answer s) s ∷ after) after
+          by : (o : Option A) (c : Bool) → mark s ≡ o → is_waiting s ≡ c → WhereWaiting s → after ≡ kept →
+              cond (is_waiting (decided_with n o s)) (decided_with n o s ∷ after) after
               ≡ filter stays (cond c (s ∷ filter is_waiting ss) (filter is_waiting ss))
-          by true true us ws waits same = same ∙ ap (λ b. cond (not b) (s ∷ kept) kept) (sym us)
-          by true false us ws waits same = absurd (cc (waits us, ws))
-          by false true us ws waits same = ap (λ b. cond b (s ∷ after) after) ws ∙ ap (λ (l : List (Slot M A)). s ∷ l) same
-              ∙ ap (λ b. cond (not b) (s ∷ kept) kept) (sym us)
-          by false false us ws waits same = ap (λ b. cond b (s ∷ after) after) ws ∙ same
+          by (Some a) true given ws waits same = same ∙ ap (λ o. cond (not (is_some o)) (s ∷ kept) kept) (sym given)
+          by (Some a) false given ws waits same = absurd (cc (waits (ap is_some given), ws))
+          by None true given ws waits same = ap (λ b. cond b (s ∷ after) after) ws ∙ ap (λ (l : List (Slot M A)). s ∷ l) same
+              ∙ ap (λ o. cond (not (is_some o)) (s ∷ kept) kept) (sym given)
+          by None false given ws waits same = ap (λ b. cond b (s ∷ after) after) ws ∙ same
 
     same-n : ltb n n ≡ false
     same-n = le-ltb n n (omega arith)
@@ -366,130 +374,210 @@ module _ {M A : Type 0} where
       by (Decided a) on = absurd (cc)
       by Ended on = absurd (cc)
 
-    told-older : (ss : List (Slot M A)) → All (λ s. u s ≡ true → is_waiting s ≡ true) ss →
-        All (λ (s : Slot M A). s.number < n) ss →
+    told-older : (ss : List (Slot M A)) → All WhereWaiting ss → All (λ (s : Slot M A). s.number < n) ss →
         filter older (filter has_answer (map marked ss)) ≡ filter has_answer ss
     told-older [] all old = refl
-    told-older (s ∷ ss) all old = by (u s) (has_answer s) refl refl
-        (All-head (λ s. u s ≡ true → is_waiting s ≡ true) s ss all) (All-head (λ (s : Slot M A). s.number < n) s ss old)
-        (told-older ss (All-tail (λ s. u s ≡ true → is_waiting s ≡ true) s ss all)
+    told-older (s ∷ ss) all old = by (mark s) (has_answer s) refl refl
+        (All-head WhereWaiting s ss all) (All-head (λ (s : Slot M A). s.number < n) s ss old)
+        (told-older ss (All-tail WhereWaiting s ss all)
         (All-tail (λ (s : Slot M A). s.number < n) s ss old)) where
           after : List (Slot M A)
           after = filter has_answer (map marked ss)
 
-          by : (b c : Bool) → u s ≡ b → has_answer s ≡ c → (u s ≡ true → is_waiting s ≡ true) → s.number < n →
+          by : (o : Option A) (c : Bool) → mark s ≡ o → has_answer s ≡ c → WhereWaiting s → s.number < n →
               filter older after ≡ filter has_answer ss →
-              filter older (cond (has_answer (cond b (decided_as n answer s) s)) (cond b (decided_as n answer s) s ∷ after) after)
+              filter older (cond (has_answer (decided_with n o s)) (decided_with n o s ∷ after) after)
               ≡ cond c (s ∷ filter has_answer ss) (filter has_answer ss)
-          by true true us hs waits less same = absurd (cc (waits-told s (waits us), hs))
-          by true false us hs waits less same =
-              ap (λ b. cond b (decided_as n answer s ∷ filter older after) (filter older after)) same-n ∙ same
-          by false true us hs waits less same =
+          by (Some a) true given hs waits less same = absurd (cc (waits-told s (waits (ap is_some given)), hs))
+          by (Some a) false given hs waits less same =
+              ap (λ b. cond b (decided_as n a s ∷ filter older after) (filter older after)) same-n ∙ same
+          by None true given hs waits less same =
               ap (λ b. filter older (cond b (s ∷ after) after)) hs
               ∙ ap (λ b. cond b (s ∷ filter older after) (filter older after)) (lt-ltb s.number n less)
               ∙ ap (λ (l : List (Slot M A)). s ∷ l) same
-          by false false us hs waits less same = ap (λ b. filter older (cond b (s ∷ after) after)) hs ∙ same
+          by None false given hs waits less same = ap (λ b. filter older (cond b (s ∷ after) after)) hs ∙ same
 
-    told-newer : (ss : List (Slot M A)) → All (λ s. u s ≡ true → is_waiting s ≡ true) ss →
-        All (λ (s : Slot M A). s.number < n) ss →
-        filter newer (filter has_answer (map marked ss)) ≡ map (decided_as n answer) (filter u (filter is_waiting ss))
+    told-newer : (ss : List (Slot M A)) → All WhereWaiting ss → All (λ (s : Slot M A). s.number < n) ss →
+        filter newer (filter has_answer (map marked ss)) ≡ map marked (filter hit (filter is_waiting ss))
     told-newer [] all old = refl
-    told-newer (s ∷ ss) all old = by (u s) (is_waiting s) refl refl
-        (All-head (λ s. u s ≡ true → is_waiting s ≡ true) s ss all) (All-head (λ (s : Slot M A). s.number < n) s ss old)
-        (told-newer ss (All-tail (λ s. u s ≡ true → is_waiting s ≡ true) s ss all)
+    told-newer (s ∷ ss) all old = by (mark s) (is_waiting s) refl refl
+        (All-head WhereWaiting s ss all) (All-head (λ (s : Slot M A). s.number < n) s ss old)
+        (told-newer ss (All-tail WhereWaiting s ss all)
         (All-tail (λ (s : Slot M A). s.number < n) s ss old)) where
           after : List (Slot M A)
           after = filter has_answer (map marked ss)
 
-          hit : List (Slot M A)
-          hit = filter u (filter is_waiting ss)
+          hits : List (Slot M A)
+          hits = filter hit (filter is_waiting ss)
 
           rest_of : (b : Bool) → has_answer s ≡ b → s.number < n → filter newer (cond b (s ∷ after) after) ≡ filter newer after
           rest_of true hs less = ap (λ b. cond (not b) (s ∷ filter newer after) (filter newer after)) (lt-ltb s.number n less)
           rest_of false hs less = refl
 
-          by : (b c : Bool) → u s ≡ b → is_waiting s ≡ c → (u s ≡ true → is_waiting s ≡ true) → s.number < n →
-              filter newer after ≡ map (decided_as n answer) hit →
-              filter newer (cond (has_answer (cond b (decided_as n answer s) s)) (cond b (decided_as n answer s) s ∷ after) after)
-              ≡ map (decided_as n answer) (filter u (cond c (s ∷ filter is_waiting ss) (filter is_waiting ss)))
-          by true true us ws waits less same =
-              ap (λ b. cond (not b) (decided_as n answer s ∷ filter newer after) (filter newer after)) same-n
-              ∙ ap (λ (l : List (Slot M A)). decided_as n answer s ∷ l) same
-              ∙ ap (λ b. map (decided_as n answer) (cond b (s ∷ hit) hit)) (sym us)
-          by true false us ws waits less same = absurd (cc (waits us, ws))
-          by false true us ws waits less same = rest_of (has_answer s) refl less ∙ same
-              ∙ ap (λ b. map (decided_as n answer) (cond b (s ∷ hit) hit)) (sym us)
-          by false false us ws waits less same = rest_of (has_answer s) refl less ∙ same
+          by : (o : Option A) (c : Bool) → mark s ≡ o → is_waiting s ≡ c → WhereWaiting s → s.number < n →
+              filter newer after ≡ map marked hits →
+              filter newer (cond (has_answer (decided_with n o s)) (decided_with n o s ∷ after) after)
+              ≡ map marked (filter hit (cond c (s ∷ filter is_waiting ss) (filter is_waiting ss)))
+          by (Some a) true given ws waits less same =
+              ap (λ b. cond (not b) (decided_as n a s ∷ filter newer after) (filter newer after)) same-n
+              ∙ ap (λ (l : List (Slot M A)). decided_as n a s ∷ l) same
+              ∙ ap (λ o. decided_with n o s ∷ map marked hits) (sym given)
+              ∙ ap (λ o. map marked (cond (is_some o) (s ∷ hits) hits)) (sym given)
+          by (Some a) false given ws waits less same = absurd (cc (waits (ap is_some given), ws))
+          by None true given ws waits less same = rest_of (has_answer s) refl less ∙ same
+              ∙ ap (λ o. map marked (cond (is_some o) (s ∷ hits) hits)) (sym given)
+          by None false given ws waits less same = rest_of (has_answer s) refl less ∙ same
 
-    decisions-now : (ss : List (Slot M A)) →
-        filter_map decision_in (map (decided_as n answer) ss) ≡ map (decide answer) (map waiter ss)
-    decisions-now [] = refl
-    decisions-now (s ∷ ss) = ap (λ (l : List (Decision A)). decide answer s.waiter ∷ l) (decisions-now ss)
-
-    all-new : (ss : List (Slot M A)) → All (λ (s : Slot M A). s.number ≡ n) (map (decided_as n answer) ss)
+    all-new : (ss : List (Slot M A)) → All (λ (s : Slot M A). s.number ≡ n) (map marked (filter hit ss))
     all-new [] = All-nil (λ (s : Slot M A). s.number ≡ n)
-    all-new (s ∷ ss) = All-cons (λ (s : Slot M A). s.number ≡ n) (decided_as n answer s) (map (decided_as n answer) ss) refl
-        (all-new ss)
+    all-new (s ∷ ss) = by (mark s) refl (all-new ss) where
+      by : (o : Option A) → mark s ≡ o → All (λ (s : Slot M A). s.number ≡ n) (map marked (filter hit ss)) →
+          All (λ (s : Slot M A). s.number ≡ n) (map marked (cond (is_some o) (s ∷ filter hit ss) (filter hit ss)))
+      by None given rest = rest
+      by (Some a) given rest = All-cons (λ (s : Slot M A). s.number ≡ n) (marked s) (map marked (filter hit ss))
+          (ap (λ o. (decided_with n o s).number) given) rest
 
-    told-marked : (ss : List (Slot M A)) → All (λ s. u s ≡ true → is_waiting s ≡ true) ss →
-        All (λ (s : Slot M A). s.number < n) ss →
-        told (map marked ss) ≡ told ss ++ map (decided_as n answer) (filter u (line ss))
+    keeps-rank : (s : Slot M A) → rank (marked s) ≡ rank s
+    keeps-rank s = by (mark s) where
+      by : (o : Option A) → rank (decided_with n o s) ≡ rank s
+      by None = refl
+      by (Some a) = refl
+
+    told-marked : (ss : List (Slot M A)) → All WhereWaiting ss → All (λ (s : Slot M A). s.number < n) ss →
+        told (map marked ss) ≡ told ss ++ map marked (filter hit (line ss))
     told-marked ss all old =
-        let hit = filter u (filter is_waiting ss) in
+        let hits = filter hit (filter is_waiting ss) in
         let l = told (map marked ss) in
         let low : filter older l ≡ told ss = told-filter older (map marked ss)
         ∙ ap (λ (l : List (Slot M A)). by_key number (by_key rank l)) (told-older ss all old) in
-        let served : by_key rank (map (decided_as n answer) hit) ≡ map (decided_as n answer) (filter u (line ss)) =
-        sym (map-by_key (decided_as n answer) rank hit) ∙ ap (map (decided_as n answer)) (sym (line-filter u ss)) in
-        let high : filter newer l ≡ map (decided_as n answer) (filter u (line ss)) = told-filter newer (map marked ss)
+        let ranked : ◌≡◌ {A = Slot M A → ℕ} (λ s. rank (marked s)) (λ s. rank s) = λ i s. keeps-rank s i in
+        let served : by_key rank (map marked hits) ≡ map marked (filter hit (line ss)) = sym (map-by_key marked rank hits)
+        ∙ ap (λ (key : Slot M A → ℕ). map marked (by_key key hits)) ranked
+        ∙ ap (map marked) (sym (line-filter hit ss)) in
+        let high : filter newer l ≡ map marked (filter hit (line ss)) = told-filter newer (map marked ss)
         ∙ ap (λ (l : List (Slot M A)). by_key number (by_key rank l)) (told-newer ss all old)
         ∙ ap (by_key number) served
-        ∙ by_key-ascending number (map (decided_as n answer) (filter u (line ss)))
-        (Ascends-same number n (map (decided_as n answer) (filter u (line ss))) (all-new (filter u (line ss)))) in
+        ∙ by_key-ascending number (map marked (filter hit (line ss)))
+        (Ascends-same number n (map marked (filter hit (line ss))) (all-new (line ss))) in
         ascending-parts number n l (Ascends-by_key number (by_key rank (filter has_answer (map marked ss))))
         ∙ ap (λ (v : List (Slot M A)). v ++ filter newer l) low ∙ ap (λ (v : List (Slot M A)). told ss ++ v) high
 
-    pub waits-marked : (ss : List (Slot M A)) → All (λ s. u s ≡ true → is_waiting s ≡ true) ss →
-        All (λ (s : Slot M A). s.number < n) ss →
+    pub waits-marked : (ss : List (Slot M A)) → All WhereWaiting ss → All (λ (s : Slot M A). s.number < n) ss →
         waits_in (map marked ss) ≡ record {
           waiting = map waiter (filter stays (line ss));
-          decided = filter_map decision_in (told ss) ++ map (decide answer) (map waiter (filter u (line ss)));
+          decided = filter_map decision_in (told ss) ++ filter_map decision_in (map marked (filter hit (line ss)));
         }
     waits-marked ss all old = same-waits _ _ _ _
         (ap (λ (l : List (Slot M A)). map waiter (by_key rank l)) (still ss all) ∙ ap (map waiter) (sym (line-filter stays ss)))
         (ap (filter_map decision_in) (told-marked ss all old)
-        ∙ filter_map-append decision_in (told ss) (map (decided_as n answer) (filter u (line ss)))
-        ∙ ap (λ (l : List (Decision A)). filter_map decision_in (told ss) ++ l) (decisions-now (filter u (line ss))))
+        ∙ filter_map-append decision_in (told ss) (map marked (filter hit (line ss))))
 
   line-waits : (ss : List (Slot M A)) → All (λ s. is_waiting s ≡ true) (line ss)
   line-waits ss = All-by_key (λ s. is_waiting s ≡ true) rank (filter is_waiting ss) (filter_passes is_waiting ss)
 
+  -- those are decided for whom a test has an answer
+  module _ (test : M → Option A) (n : ℕ) where
+    -- the test is asked of those who wait alone
+    answers-waiting : (s : Slot M A) → is_some (answer_by test s) ≡ true → is_waiting s ≡ true
+    answers-waiting s is = by (is_waiting s) is where
+      by : (b : Bool) → is_some (cond b (says test s.waiter) None) ≡ true → b ≡ true
+      by true is = refl
+      by false is = absurd (cc (is))
+
+    asked : (s : Slot M A) → is_waiting s ≡ true → answer_by test s ≡ says test s.waiter
+    asked s on = ap (λ b. cond b (says test s.waiter) None) on
+
+    left-tested : (ls : List (Slot M A)) → All (λ s. is_waiting s ≡ true) ls →
+        map waiter (filter (λ s. not (is_some (answer_by test s))) ls) ≡ filter (is_left test) (map waiter ls)
+    left-tested [] all = refl
+    left-tested (s ∷ ls) all =
+        ap (λ o. map waiter (cond (not (is_some o)) (s ∷ left_by) left_by)) (asked s (All-head (λ s. is_waiting s ≡ true) s ls all))
+        ∙ by (is_left test s.waiter) (left-tested ls (All-tail (λ s. is_waiting s ≡ true) s ls all)) where
+          left_by : List (Slot M A)
+          left_by = filter (λ s. not (is_some (answer_by test s))) ls
+
+          by : (b : Bool) → map waiter left_by ≡ filter (is_left test) (map waiter ls) →
+              map waiter (cond b (s ∷ left_by) left_by)
+              ≡ cond b (s.waiter ∷ filter (is_left test) (map waiter ls)) (filter (is_left test) (map waiter ls))
+          by true same = ap (λ (l : List (Waiter M)). s.waiter ∷ l) same
+          by false same = same
+
+    decisions-tested : (ls : List (Slot M A)) → All (λ s. is_waiting s ≡ true) ls →
+        filter_map decision_in (map (decided_where n test) (filter (λ s. is_some (answer_by test s)) ls))
+        ≡ decisions_by test (map waiter ls)
+    decisions-tested [] all = refl
+    decisions-tested (s ∷ ls) all =
+        by (says test s.waiter) (asked s (All-head (λ s. is_waiting s ≡ true) s ls all))
+        (decisions-tested ls (All-tail (λ s. is_waiting s ≡ true) s ls all)) where
+          hits : List (Slot M A)
+          hits = filter (λ s. is_some (answer_by test s)) ls
+
+          now : List (Decision A)
+          now = filter_map decision_in (map (decided_where n test) hits)
+
+          by : (o : Option A) → answer_by test s ≡ o → now ≡ decisions_by test (map waiter ls) →
+              filter_map decision_in (map (decided_where n test) (cond (is_some (answer_by test s)) (s ∷ hits) hits))
+              ≡ decided_by o s.waiter ++ decisions_by test (map waiter ls)
+          by None is same =
+              ap (λ o. filter_map decision_in (map (decided_where n test) (cond (is_some o) (s ∷ hits) hits))) is ∙ same
+          by (Some a) is same =
+              ap (λ o. filter_map decision_in (map (decided_where n test) (cond (is_some o) (s ∷ hits) hits))) is
+              ∙ ap (λ o. cons_option (decision_in (decided_with n o s)) now) is
+              ∙ ap (λ (l : List (Decision A)). decide a s.waiter ∷ l) same
+
+    pub waits-tested : (ss : List (Slot M A)) → All (λ (s : Slot M A). s.number < n) ss →
+        waits_in (map (decided_where n test) ss) ≡ each_decided test (waits_in ss)
+    waits-tested ss old = waits-marked (answer_by test) n ss (λ k d within. answers-waiting (get_or ss k d)) old
+        ∙ same-waits _ _ _ _ (left-tested (line ss) (line-waits ss))
+        (ap (λ (l : List (Decision A)). filter_map decision_in (told ss) ++ l) (decisions-tested (line ss) (line-waits ss)))
+
   -- all are decided
   pub waits-all : (n : ℕ) (answer : A) (ss : List (Slot M A)) → All (λ (s : Slot M A). s.number < n) ss →
       waits_in (map (decided_all n answer) ss) ≡ all_decided answer (waits_in ss)
-  waits-all n answer ss old = waits-marked is_waiting n answer ss (λ k d within on. on) old
+  waits-all n answer ss old = waits-tested (λ _. Some answer) n ss old
       ∙ same-waits _ _ _ _
-      (ap (map waiter) (filter_none (λ s. not (is_waiting s)) (line ss)
-      (All-weaker (λ s. is_waiting s ≡ true) (λ s. not (is_waiting s) ≡ false) (λ s on. ap not on) (line ss) (line-waits ss))))
-      (ap (λ (l : List (Slot M A)). filter_map decision_in (told ss) ++ map (decide answer) (map waiter l))
-      (filter_all is_waiting (line ss) (line-waits ss)))
+      (filter_none (λ (_ : Waiter M). false) (map waiter (line ss)) (λ k d within. refl))
+      (ap (λ (l : List (Decision A)). filter_map decision_in (told ss) ++ l) (decisions-alike answer (map waiter (line ss))))
 
   -- the first is decided
   pub waits-first : (n : ℕ) (answer : A) (place : ℕ) (ss ls : List (Slot M A)) (s : Slot M A) →
       All (λ (s : Slot M A). s.number < n) ss → filter (here place) ss ≡ s ∷ [] → is_waiting s ≡ true → line ss ≡ s ∷ ls →
       waits_in (map (λ t. cond (eqb (place_of t) place) (decided_as n answer t) t) ss) ≡ first_decided answer (waits_in ss)
   waits-first n answer place ss ls s old alone on first =
-      waits-marked (here place) n answer ss (all-of-filter (here place) is_waiting ss (subst (All (λ t. is_waiting t ≡ true))
-      (sym alone) (All-cons (λ t. is_waiting t ≡ true) s [] on (All-nil (λ t. is_waiting t ≡ true))))) old
+      ap (λ (f : Slot M A → Slot M A). waits_in (map f ss)) marks
+      ∙ waits-marked mark n ss (subst (λ (p : Slot M A → Bool). All (λ t. p t ≡ true → is_waiting t ≡ true) ss) (sym hits)
+      (all-of-filter (here place) is_waiting ss (subst (All (λ t. is_waiting t ≡ true))
+      (sym alone) (All-cons (λ t. is_waiting t ≡ true) s [] on (All-nil (λ t. is_waiting t ≡ true)))))) old
       ∙ same-waits _ _ _ _
-      (ap (λ (l : List (Slot M A)). map waiter (filter (away place) l)) first
+      (ap (λ (p : Slot M A → Bool). map waiter (filter (λ t. not (p t)) (line ss))) hits
+      ∙ ap (λ (l : List (Slot M A)). map waiter (filter (away place) l)) first
       ∙ ap (map waiter) without)
-      (ap (λ (l : List (Slot M A)). filter_map decision_in (told ss) ++ map (decide answer) (map waiter l)) mine)
+      (ap (λ (l : List (Decision A)). filter_map decision_in (told ss) ++ l)
+      (ap (λ (p : Slot M A → Bool). filter_map decision_in (map (marked mark n) (filter p (line ss)))) hits
+      ∙ ap (λ (l : List (Slot M A)). filter_map decision_in (map (marked mark n) l)) mine
+      ∙ ap (λ b. filter_map decision_in (decided_with n (cond b (Some answer) None) s ∷ [])) at))
       ∙ sym (ap (λ (l : List (Slot M A)). first_decided answer (record {
         waiting = map waiter l;
         decided = filter_map
             decision_in (told ss);
       })) first) where
+        mark : Slot M A → Option A
+        mark t = cond (here place t) (Some answer) None
+
+        as_marked : (b : Bool) (t : Slot M A) → cond b (decided_as n answer t) t ≡ decided_with n (cond b (Some answer) None) t
+        as_marked true t = refl
+        as_marked false t = refl
+
+        marks : ◌≡◌ {A = Slot M A → Slot M A} (λ t. cond (here place t) (decided_as n answer t) t) (marked mark n)
+        marks = λ i t. as_marked (here place t) t i
+
+        some : (b : Bool) → is_some (cond b (Some answer) None) ≡ b
+        some true = refl
+        some false = refl
+
+        hits : ◌≡◌ {A = Slot M A → Bool} (λ t. is_some (mark t)) (here place)
+        hits = λ i t. some (here place t) i
+
         mine : filter (here place) (line ss) ≡ s ∷ []
         mine = line-here (here place) ss ∙ ap line alone ∙ ap (λ b. by_key rank (cond b (s ∷ []) [])) on
 

@@ -14,7 +14,7 @@ use Rattle.zk_base.specs.declared.slots.Stage.TheVariants.{Waits, Decided, Ended
 use Rattle.zk_base.specs.declared.leaders.First.{First}
 use Rattle.zk_base.specs.Order.{put_by, by_key}
 use Rattle.zk_base.specs.Waits.{open_waits}
-use Rattle.zk_base.specs.Slots.{Rises, place_of, goes_on_at, is_open_at, answer_at, is_waiting, is_open, has_answer, answer_for, IsRanked, over, decided_as, decided_all, line, waits_in, waits_as, leads, is_of, first_of, led, moved_to, replaced, passed_on, IsClosedUp, IsKept}
+use Rattle.zk_base.specs.Slots.{Rises, place_of, goes_on_at, is_open_at, answer_at, is_waiting, is_open, has_answer, answer_for, IsRanked, over, decided_as, decided_with, decided_all, line, waits_in, waits_as, leads, is_of, first_of, led, moved_to, replaced, passed_on, IsClosedUp, IsKept}
 use Rattle.zk_base.proofs.Firsts.{All-found}
 use Rattle.zk_base.proofs.Order.{All-put_by, find-filter}
 use Rattle.zk_base.proofs.SlotLists.{find-weaker, found-passes, found-alone}
@@ -307,15 +307,14 @@ module _ {M A : Type 0} where
           few = omega (arith, few, some);
         }
 
-    -- one that goes on is decided
-    pub kept-decided : (answer : A) → is_waiting it ≡ true →
-        IsKept (set ss i (decided_as (d + 1) answer it)) (passed_on it.rank (place_of it) (leads it.rank (drop (i + 1) ss)) fs)
-        (w - 1) e n (d + 1)
-    kept-decided answer on =
+    -- one that goes on is decided, as the one of this number: that of a new decision, or of the last
+    pub kept-decided : (c : ℕ) (answer : A) → d ≤ c → c ≤ d + 1 → is_waiting it ≡ true →
+        IsKept (set ss i (decided_as c answer it)) (passed_on it.rank (place_of it) (leads it.rank (drop (i + 1) ss)) fs)
+        (w - 1) e n c
+    kept-decided c answer more less on =
         let few = k.few in
-        kept-changed (decided_as (d + 1) answer it) e (d + 1) on refl (λ ranked. ranked) (omega arith) (omega arith) (omega
-        (arith, few)) refl
-        (decided-off (d + 1) answer it) (omega arith)
+        kept-changed (decided_as c answer it) e c on refl (λ ranked. ranked) (omega arith) more (omega (arith, few, less)) refl
+        (decided-off c answer it) (omega arith)
 
     -- one that goes on ends
     pub kept-quitted : is_waiting it ≡ true →
@@ -393,6 +392,10 @@ module _ {M A : Type 0} where
           by (Decided a) is = refl
           by Ended is = absurd (cc)
 
+  -- it is decided, or not
+  abbrev pub newly : ℕ → A → Bool → Slot M A → Slot M A
+  newly n answer b s = decided_with n (cond b (Some answer) None) s
+
   -- all who wait are decided
   pub kept-all : {ss : List (Slot M A)} {fs : List First} {w e n d : ℕ} (answer : A) → IsKept ss fs w e n d → 0 < w →
       IsKept (map (decided_all (d + 1) answer) ss) [] 0 e n (d + 1)
@@ -420,15 +423,15 @@ module _ {M A : Type 0} where
       } where
         by : {Y : Type 0} (g : Slot M A → Y) (b : Bool) (s : Slot M A) → ((s : Slot M A) → g (decided_as
             (d + 1) answer s) ≡ g s) →
-            g (cond b (decided_as (d + 1) answer s) s) ≡ g s
+            g (newly (d + 1) answer b s) ≡ g s
         by g true s same = same s
         by g false s same = refl
 
-        still : (b : Bool) (s : Slot M A) → IsRanked s → IsRanked (cond b (decided_as (d + 1) answer s) s)
+        still : (b : Bool) (s : Slot M A) → IsRanked s → IsRanked (newly (d + 1) answer b s)
         still true s ranked = ranked
         still false s ranked = ranked
 
-        newer : (b : Bool) (s : Slot M A) → s.number ≤ d → (cond b (decided_as (d + 1) answer s) s).number ≤ d + 1
+        newer : (b : Bool) (s : Slot M A) → s.number ≤ d → (newly (d + 1) answer b s).number ≤ d + 1
         newer true s few = omega arith
         newer false s few = omega arith
 
@@ -439,8 +442,7 @@ module _ {M A : Type 0} where
           after = filter is_waiting (map (decided_all (d + 1) answer) ss)
 
           at : (b : Bool) → is_waiting s ≡ b → after ≡ [] →
-              cond (is_waiting (cond b (decided_as (d + 1) answer s) s)) (cond b (decided_as
-              (d + 1) answer s) s ∷ after) after ≡ []
+              cond (is_waiting (newly (d + 1) answer b s)) (newly (d + 1) answer b s ∷ after) after ≡ []
           at true on none = none
           at false on none = ap (λ b. cond b (s ∷ after) after) on ∙ none
 
@@ -458,8 +460,7 @@ module _ {M A : Type 0} where
           both false same = same
 
           at : (b : Bool) → is_waiting s ≡ b → length after ≡ length (filter is_waiting ss) + length (filter has_answer ss) →
-              length (cond (has_answer (cond b (decided_as (d + 1) answer s) s)) (cond b (decided_as
-              (d + 1) answer s) s ∷ after) after)
+              length (cond (has_answer (newly (d + 1) answer b s)) (newly (d + 1) answer b s ∷ after) after)
               ≡ length (cond b (s ∷ filter is_waiting ss) (filter is_waiting ss)) + length (cond (has_answer s)
               (s ∷ filter has_answer ss) (filter has_answer ss))
           at true on same =
@@ -470,8 +471,7 @@ module _ {M A : Type 0} where
         unled r [] = refl
         unled r (s ∷ ss) = at (is_waiting s) refl (unled r ss) where
           at : (b : Bool) → is_waiting s ≡ b → leads r (map (decided_all (d + 1) answer) ss) ≡ None →
-              option_map place_of (cond (waits_as r (cond b (decided_as (d + 1) answer s) s)) (Some (cond b (decided_as
-              (d + 1) answer s) s))
+              option_map place_of (cond (waits_as r (newly (d + 1) answer b s)) (Some (newly (d + 1) answer b s))
               (find (waits_as r) (map (decided_all (d + 1) answer) ss))) ≡ None
           at true on none = none
           at false on none = ap (λ b. option_map place_of (cond (b && eqb s.rank r) (Some s)

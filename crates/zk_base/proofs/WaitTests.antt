@@ -1,5 +1,5 @@
 -- Whom a test decides: how many there are, and what holds of their decisions.
-use Rattle.std.proofs.Common.{◌≡◌, ℕ, ◌+◌, not, cond, eqb, Option, Some, None, is_some, List, [], ◌∷◌, ◌++◌, length, All, refl, arith}
+use Rattle.std.proofs.Common.{◌≡◌, ℕ, ◌+◌, not, cond, eqb, Option, Some, None, is_some, List, [], ◌∷◌, ◌++◌, length, map, All, refl, ap, arith}
 use Rattle.std.specs.List.{filter, count_by}
 use Rattle.std.proofs.lemmas.List.Elements.{All-nil, All-cons, All-head, All-tail}
 use Rattle.std.proofs.lemmas.List.Sums.{sum_by-cons}
@@ -62,3 +62,8 @@ module _ {M A : Type 0} (test : M → Option A) where
         by None is rest = rest
         by (Some answer) is rest =
             All-cons P (decide answer w) (decisions_by test ws) (All-head (IfDecided P) w ws held answer is) rest
+
+-- a test with one answer for all decides all alike
+pub decisions-alike : {M A : Type 0} (answer : A) (ws : List (Waiter M)) → decisions_by (λ _. Some answer) ws ≡ map (decide answer) ws
+decisions-alike answer [] = refl
+decisions-alike {M} {A} answer (w ∷ ws) = ap (λ (l : List (Decision A)). decide answer w ∷ l) (decisions-alike answer ws)

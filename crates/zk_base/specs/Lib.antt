@@ -16,6 +16,7 @@ pub mod Padding
 pub mod Recording
 pub mod RecordedView
 pub mod Slots
+pub mod Tests
 pub mod Touched
 pub mod Validators
 pub mod WaitLaws

@@ -1,5 +1,5 @@
 -- Inner: no contract of a top call is made of this file.
-use Rattle.std.specs.Prelude.{◌≡◌, ◌⊎◌, ℕ, ◌+◌, ◌<◌, ◌≤◌, ℤ, negsuc, ◌-ℤ◌, ◌≤ℤ◌, unsigned_abs, Bool, true, false, not, ◌==◌, ◌&&◌, if◌then◌else◌, Option, Some, None, option_map, is_some, List, length, map, filter, filter_map, All, AllPairs}
+use Rattle.std.specs.Prelude.{◌≡◌, ◌⊎◌, ℕ, ◌+◌, ◌-◌, min, ◌<◌, ◌≤◌, ℤ, negsuc, ◌-ℤ◌, ◌≤ℤ◌, unsigned_abs, Bool, true, false, not, ◌==◌, ◌&&◌, if◌then◌else◌, Option, Some, None, option_map, is_some, List, length, map, filter, filter_map, All, AllPairs}
 use Rattle.std.specs.List.{find, list_any}
 use Rattle.std.specs.Option.{option_map_or}
 use Rattle.zk_base.specs.declared.waits.Decision.{Decision}
@@ -9,7 +9,7 @@ use Rattle.zk_base.specs.declared.slots.Stage.TheVariants.{Waits, Decided, Ended
 use Rattle.zk_base.specs.declared.leaders.First.{First}
 use Rattle.zk_base.specs.declared.span.Span.{Span}
 use Rattle.zk_base.specs.Order.{by_key, put_by}
-use Rattle.zk_base.specs.Waits.{Waits as AllWaits, decide}
+use Rattle.zk_base.specs.Waits.{Waits as AllWaits, decide, says}
 
 -- what the number of a priority is at least
 abbrev pub IsPriority : ℤ → Type 0
@@ -84,9 +84,22 @@ module _ {M A : Type 0} where
   abbrev pub decided_as : ℕ → A → Slot M A → Slot M A
   decided_as number answer s = record s { number = number; stage = Decided answer }
 
-  -- the same, where it goes on
+  -- what a test says of it, where it goes on
+  abbrev pub answer_by : (M → Option A) → Slot M A → Option A
+  answer_by test s = if is_waiting s then says test s.waiter else None
+
+  -- the same wait, decided as one of this number where there is an answer
+  abbrev pub decided_with : ℕ → Option A → Slot M A → Slot M A
+  decided_with number None s = s
+  decided_with number (Some answer) s = decided_as number answer s
+
+  -- the same, by what a test says where it goes on
+  abbrev pub decided_where : ℕ → (M → Option A) → Slot M A → Slot M A
+  decided_where number test s = decided_with number (answer_by test s) s
+
+  -- the same, with one answer for all
   abbrev pub decided_all : ℕ → A → Slot M A → Slot M A
-  decided_all number answer s = if is_waiting s then decided_as number answer s else s
+  decided_all number answer s = decided_where number (λ _. Some answer) s
 
   -- who waits, by priority, and those of one by place
   abbrev pub line : List (Slot M A) → List (Slot M A)
@@ -172,3 +185,11 @@ pub record IsWaitList {M A : Type 0} (slots : List (Slot M A)) (firsts : List Fi
   pub half : ended + ended ≤ length slots
   -- those that are decided stand there
   pub within : All (IsToldIn told) slots
+
+-- so many of these waits are decided at once, as those of one number: what is left is a list of waits, with one decision more
+pub record StaysWaitList {M A : Type 0} (number : ℕ) (slots : List (Slot M A)) (firsts : List First) (told : Span)
+    (left_slots : List (Slot M A)) (left_firsts : List First) (left_told : Span) (decided : ℕ) : Type 0 where
+  pub at_once : (waiting ended next decisions : ℕ) → number ≡ decisions + 1 →
+      IsWaitList slots firsts waiting ended next decisions told →
+      (decided ≤ waiting)
+      × IsWaitList left_slots left_firsts (waiting - decided) ended next (decisions + min decided 1) left_told

@@ -1,6 +1,6 @@
 ghost use Rattle.std.specs.Prelude.{◌≡◌, ◌+◌, [], ◌∷◌, ◌++◌, OnOk, OnErr, length, List};
 
-use crate::NoMemory;
+use crate::{NoMemory, push_within};
 use std::alloc::Global;
 use std::marker::Model;
 
@@ -58,6 +58,18 @@ impl<T> Listed<T> {
         ensures err { OnErr result (self.new ≡ self.old) }
     {
         self.items.push(item)?;
+        Ok(())
+    }
+
+    /// A copy of an item more at the end. The room is made first, so that a large item is copied once.
+    pub fn push_copy(&mut self, item: &T) -> Result<(), NoMemory>
+    where
+        T: Copy,
+        ensures ok { OnOk result (self.new ≡ self.old ++ item.now ∷ []) }
+        ensures err { OnErr result (self.new ≡ self.old) }
+    {
+        self.items.reserve(1)?;
+        push_within(&mut self.items, *item);
         Ok(())
     }
 }

@@ -1,8 +1,10 @@
-ghost use Rattle.std.specs.Prelude.{◌≡◌, ◌≢◌, ◌+◌, ◌<◌, ◌≤◌, drop, length, map, vec_len, vec_capacity, All, HoldsAt, IfSome, IfNone};
-ghost use Rattle.zk_base.specs.Slots.{IsPriority, IsClosedUp, rank_of, place_of, Rises, is_waiting, is_open, over, decided_as, decided_all, answer_for, waits_for, waits_as, leads, passed_on};
+ghost use Rattle.std.specs.Prelude.{◌≡◌, ◌≢◌, ◌+◌, ◌<◌, ◌≤◌, true, Option, drop, length, map, set, vec_len, vec_capacity, All, HoldsAt, IfSome, IfNone};
+ghost use Rattle.zk_base.specs.Slots.{IsPriority, IsClosedUp, StaysWaitList, rank_of, place_of, Rises, is_waiting, is_open, over, decided_as, decided_where, decided_all, answer_by, answer_for, waits_for, waits_as, leads, passed_on};
+ghost use Rattle.zk_base.specs.Tests.{Computes};
 
 use crate::Who;
 use crate::leaders::{First, place_of_rank};
+use crate::span::Span;
 use crate::waits::Waiter;
 
 /// How far a wait is.
@@ -72,34 +74,27 @@ fn is_open<M, A>(slot: &Slot<M, A>) -> bool
     }
 }
 
-/// The same wait, ended.
-pub fn over<M: Copy, A: Copy>(slot: Slot<M, A>) -> Slot<M, A>
-    ensures { result ≡ over slot }
+/// Ends the wait.
+pub fn end<M, A: Copy>(slot: &mut Slot<M, A>)
+    ensures { slot.new ≡ over slot.old }
 {
-    Slot {
-        stage: Stage::Ended,
-        ..slot
-    }
+    slot.stage = Stage::Ended;
 }
 
-/// The same wait, decided.
-pub fn decided_as<M: Copy, A: Copy>(number: u64, answer: A, slot: Slot<M, A>) -> Slot<M, A>
-    ensures { result ≡ decided_as number answer slot }
+/// Decides the wait.
+fn decide<M, A: Copy>(slot: &mut Slot<M, A>, number: u64, answer: A)
+    ensures { slot.new ≡ decided_as number answer slot.old }
 {
-    Slot {
-        number,
-        stage: Stage::Decided(answer),
-        ..slot
-    }
+    slot.number = number;
+    slot.stage = Stage::Decided(answer);
 }
 
 /// Decides the wait where it goes on.
-fn decided_where_waiting<M: Copy, A: Copy>(number: u64, answer: A, slot: Slot<M, A>) -> Slot<M, A>
-    ensures { result ≡ decided_all number answer slot }
+fn decide_where_waiting<M, A: Copy>(slot: &mut Slot<M, A>, number: u64, answer: A)
+    ensures { slot.new ≡ decided_all number answer slot.old }
 {
-    match slot.stage {
-        Stage::Waits => decided_as(number, answer, slot),
-        _ => slot,
+    if is_waiting(slot) {
+        decide(slot, number, answer);
     }
 }
 
@@ -108,7 +103,7 @@ pub fn decide_each<M: Copy, A: Copy>(slots: &mut [Slot<M, A>], number: u64, answ
     ensures { slots.new ≡ map (decided_all number answer) slots.old }
 {
     for slot in slots.iter_mut() {
-        *slot = decided_where_waiting(number, answer, *slot);
+        decide_where_waiting(slot, number, answer);
     }
 }
 
@@ -176,6 +171,66 @@ pub fn pass_on<M, A>(firsts: &mut Vec<First>, slots: &[Slot<M, A>], index: usize
             firsts.remove(at);
         }
     }
+}
+
+/// Decides the wait at this index: where it was the first of its rank, the next one is.
+pub fn decide_at<M: Copy, A: Copy>(
+    slots: &mut [Slot<M, A>],
+    firsts: &mut Vec<First>,
+    index: usize,
+    number: u64,
+    answer: A,
+)
+    requires ordered { Rises (λ f. f.rank) firsts.old.items }
+    requires within { index < length slots.old }
+    ensures slots { HoldsAt (λ s. slots.new ≡ set slots.old index (decided_as number answer s)) slots.old index }
+    ensures firsts { HoldsAt (λ s. firsts.new.items
+        ≡ passed_on s.rank (place_of s) (leads s.rank (drop (index + 1) slots.old)) firsts.old.items) slots.old index }
+    ensures len { vec_len firsts.new ≤ vec_len firsts.old }
+    ensures capacity { vec_capacity firsts.new ≡ vec_capacity firsts.old }
+{
+    pass_on(firsts, slots, index);
+    decide(&mut slots[index], number, answer);
+}
+
+/// What the test answers, where the wait goes on.
+fn answer_by<M, A, F: Fn(&M) -> Option<A>>(test: &F, slot: &Slot<M, A>) -> Option<A>
+    requires { F.IsAlwaysCallable test.now }
+    ensures waits { IfSome result (λ _. is_waiting slot.now ≡ true) }
+    ensures answer { (says : M → Option A) → Computes F.Fn says test.now → result ≡ answer_by says slot.now }
+{
+    if !is_waiting(slot) {
+        return None;
+    }
+    test(&slot.waiter.payload)
+}
+
+/// Decides each wait that goes on and for which the test has an answer, all as of one number, and notes where they stand. How
+/// many they are.
+pub fn decide_tested<M: Copy, A: Copy, F: Fn(&M) -> Option<A>>(
+    slots: &mut [Slot<M, A>],
+    firsts: &mut Vec<First>,
+    told: &mut Span,
+    number: u64,
+    test: &F,
+) -> usize
+    requires callable { F.IsAlwaysCallable test.now }
+    requires ordered { Rises (λ f. f.rank) firsts.old.items }
+    ensures slots { (says : M → Option A) → Computes F.Fn says test.now
+        → slots.new ≡ map (decided_where number says) slots.old }
+    ensures stays { StaysWaitList number slots.old firsts.old.items told.old slots.new firsts.new.items told.new result }
+    ensures len { vec_len firsts.new ≤ vec_len firsts.old }
+    ensures capacity { vec_capacity firsts.new ≡ vec_capacity firsts.old }
+{
+    let mut decided = 0;
+    for index in 0..slots.len() {
+        if let Some(answer) = answer_by(test, &slots[index]) {
+            *told = told.with(slots[index].waiter.place);
+            decide_at(slots, firsts, index, number, answer);
+            decided += 1;
+        }
+    }
+    decided
 }
 
 /// Takes the waits out that have ended, where they are more than half. How many of those there are then.

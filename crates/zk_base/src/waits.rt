@@ -1,10 +1,11 @@
-ghost use Rattle.std.specs.Prelude.{◌≡◌, ◌+◌, ◌^◌, ◌-◌, ◌≤◌, ◌<◌, false, is_some, length, IsOk, IfOk, IfNone, OnOk, OnErr, slice_get};
-ghost use Rattle.zk_base.specs.Waits.{no_waits, decision_of, goes_on, open_waits, joined, left, first_decided, all_decided, ended, quitted, quit_answer};
+ghost use Rattle.std.specs.Prelude.{◌≡◌, ◌+◌, ◌^◌, ◌-◌, ◌≤◌, ◌<◌, false, Option, is_some, length, IsOk, IfOk, IfNone, OnOk, OnErr, slice_get};
+ghost use Rattle.std.specs.Fn.{FnReturnsAt};
+ghost use Rattle.zk_base.specs.Waits.{no_waits, decision_of, goes_on, open_waits, joined, left, first_decided, all_decided, each_decided, ended, quitted, quit_answer};
 
 use crate::leaders::{First, lead};
 use crate::slots::{
-    Slot, Stage, answer_for, close_up, decide_each, decided_as, index_of, over, pass_on, rank_of,
-    waits_for,
+    Slot, Stage, answer_for, close_up, decide_at, decide_each, decide_tested, end, index_of,
+    pass_on, rank_of, waits_for,
 };
 use crate::span::Span;
 use crate::{NoMemory, Who, push_within};
@@ -187,11 +188,16 @@ impl<M: Drop + Copy, A: Drop + Copy> WaitList<M, A> {
         let Some(index) = index_of(&self.slots, place) else {
             return;
         };
-        pass_on(&mut self.firsts, &self.slots, index);
         self.waiting -= 1;
         self.decisions += 1;
         self.told = self.told.with(place);
-        self.slots[index] = decided_as(self.decisions, answer, self.slots[index]);
+        decide_at(
+            &mut self.slots,
+            &mut self.firsts,
+            index,
+            self.decisions,
+            answer,
+        );
     }
 
     /// Decides all waits alike.
@@ -209,6 +215,31 @@ impl<M: Drop + Copy, A: Drop + Copy> WaitList<M, A> {
         self.firsts.clear();
         self.waiting = 0;
         self.told = Span::everything();
+    }
+
+    /// Decides each wait for which the test has an answer, with that answer, in the order in which they are served. The others
+    /// go on. The test is asked once for each who waits.
+    pub fn decide_by<F: Fn(&M) -> Option<A>>(&mut self, test: F)
+        requires { F.IsAlwaysCallable test }
+        ensures waits { (says : M → Option A) →
+            ((payload : M) (answer : Option A) → FnReturnsAt F.Fn test payload answer → answer ≡ says payload) →
+            self.new.waits ≡ each_decided says self.old.waits }
+        ensures next { self.new.next ≡ self.old.next }
+        ensures open { open_waits self.new.waits ≡ open_waits self.old.waits }
+        ensures room { self.old.room ≤ self.new.room }
+    {
+        if self.waiting == 0 {
+            return;
+        }
+        let decided = decide_tested(
+            &mut self.slots,
+            &mut self.firsts,
+            &mut self.told,
+            self.decisions + 1,
+            &test,
+        );
+        self.waiting -= decided;
+        self.decisions += decided.min(1) as u64;
     }
 
     /// Whether a wait is decided.
@@ -236,7 +267,7 @@ impl<M: Drop + Copy, A: Drop + Copy> WaitList<M, A> {
     {
         let index = index_of(&self.slots, place)?;
         let answer = answer_for(player, &self.slots[index])?;
-        self.slots[index] = over(self.slots[index]);
+        end(&mut self.slots[index]);
         self.ended = close_up(&mut self.slots, self.ended + 1);
         self.told = self
             .told
@@ -280,7 +311,7 @@ impl<M: Drop + Copy, A: Drop + Copy> WaitList<M, A> {
         }
         pass_on(&mut self.firsts, &self.slots, index);
         self.waiting -= 1;
-        self.slots[index] = over(self.slots[index]);
+        end(&mut self.slots[index]);
         self.ended = close_up(&mut self.slots, self.ended + 1);
         true
     }

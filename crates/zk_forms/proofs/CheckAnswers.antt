@@ -4,10 +4,8 @@ use Rattle.std.specs.Prelude.{Result, ◌↔◌}
 use Rattle.std.proofs.lemmas.Bool.{false≢true}
 use Rattle.std.proofs.lemmas.List.Sums.{count_by-le-length}
 use Rattle.zk_base.specs.declared.errors.Status.{Status}
-use Rattle.zk_base.specs.declared.errors.Status.TheVariants as statuses
 use Rattle.zk_words.specs.Bytes.{line_feed}
 use Rattle.zk_scenario.specs.Content.{Content}
-use Rattle.zk_scenario.specs.declared.limits.TheConstants.{LONGEST_SCENARIO}
 use Rattle.zk_scenario.specs.declared.refused.ScenarioRefused.{ScenarioRefused}
 use Rattle.zk_scenario.specs.declared.refused.Why.TheVariants as why
 use Rattle.zk_scenario.specs.Grammar.{scenario_of}
@@ -30,7 +28,6 @@ use Rattle.zk_trace.proofs.ShortText.{short-told}
 use Rattle.zk_trace.proofs.TraceParts.{one-parting, run-parts}
 use Rattle.zk_trace.proofs.TraceRead.{one_trace}
 use Rattle.zk_scenario.proofs.ReadIsValid.{IsValid-read}
-use Rattle.zk_failures.specs.declared.site.Fail.{Fail}
 use Rattle.zk_check.specs.declared.verdict.Checked.{Checked}
 use Rattle.zk_check.specs.declared.verdict.Checked.TheVariants.{Lawful, Not}
 use Rattle.zk_check.specs.Checking.{IfNot, IsNamed}

@@ -5,6 +5,7 @@ ghost use Rattle.zk_forms.specs.Top.{form_of, cores_form_of, needs_cores, limit_
 
 use zk_cores::MOST_CORES;
 use zk_scenario::LONGEST_SCENARIO;
+use zk_side::LONGEST_SIDE_SCRIPT;
 use zk_words::number_in;
 
 /// What the program is asked to do.
@@ -16,6 +17,8 @@ pub enum Form {
     Check,
     /// `migrate`: reads what `replay` printed in format 1, and prints it in format 2.
     Migrate,
+    /// `trigger`: plays a side script of triggered work, and prints each line with its reply.
+    Trigger,
     /// `soak N`: plays the generated scenario of this number, checks the trace, and prints one line. It reads nothing.
     Soak(u32),
     /// `run N`: reads a scenario, plays it on that many cores, from 1 to 16, and prints its text and the trace.
@@ -33,6 +36,7 @@ pub fn form_of(words: &[String]) -> Option<Form>
         [word] if word.as_bytes() == b"replay".as_slice() => Some(Form::Replay),
         [word] if word.as_bytes() == b"check".as_slice() => Some(Form::Check),
         [word] if word.as_bytes() == b"migrate".as_slice() => Some(Form::Migrate),
+        [word] if word.as_bytes() == b"trigger".as_slice() => Some(Form::Trigger),
         [word, number] if word.as_bytes() == b"soak".as_slice() => soak_of(number.as_bytes()),
         _ => None,
     }
@@ -77,6 +81,7 @@ pub fn limit_of(form: Form) -> usize
         Form::Replay => LONGEST_SCENARIO,
         Form::Check => LONGEST_TRACE,
         Form::Migrate => LONGEST_TRACE,
+        Form::Trigger => LONGEST_SIDE_SCRIPT,
         Form::Soak(_) => 0,
         Form::Run(_) => LONGEST_SCENARIO,
     }

@@ -10,6 +10,7 @@ mod meaning;
 mod migrate;
 mod output;
 mod soak;
+mod trigger;
 
 pub use answer::{cores_output, output_of};
 pub use check::{check_output, trace_refusal};
@@ -19,3 +20,4 @@ pub use meaning::has_one_meaning;
 pub use migrate::migrate_output;
 pub use output::{refuse_words, write_made, write_text};
 pub use soak::soak_output;
+pub use trigger::triggers_output;

@@ -14,7 +14,8 @@ use Rattle.zk_model_bus.specs.Table.{Setup, new_table, IsSetup, is_thread, is_de
 use Rattle.zk_objects.specs.declared.object.Object.{Object}
 use Rattle.zk_objects.specs.First.{allowing, declares_user, IsFirstThread, AreFirst}
 use Rattle.zk_objects.specs.Kept.{IsObject, IsStateOf, IsChanged, AreChanged}
-use Rattle.zk_objects.specs.Players.{Marked, has}
+use Rattle.zk_player_set.specs.Players.{has}
+use Rattle.zk_objects.specs.Players.{Marked}
 use Rattle.zk_objects.proofs.Standing.{past-none}
 
 declares-past : (threads : List (ℕ × Bool)) (player : ℕ) → length threads ≤ player → declares_user threads player ≡ false

@@ -1,4 +1,3 @@
-pub mod BitWords
 pub mod Firsts
 mod Owed
 pub mod Standing

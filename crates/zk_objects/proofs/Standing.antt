@@ -28,7 +28,8 @@ use Rattle.zk_model_bus.specs.Table.{has_entered_user_mode, is_user, is_oops, is
 use Rattle.zk_model_bus.specs.Table.{table_reply, entry_of, table_next, is_object, names_objects}
 use Rattle.zk_base.specs.Kinds.{meets, is_any}
 use Rattle.zk_objects.specs.declared.object.Object.{Object}
-use Rattle.zk_objects.specs.Players.{Marked, has, is_marked}
+use Rattle.zk_player_set.specs.Players.{has}
+use Rattle.zk_objects.specs.Players.{Marked, is_marked}
 use Rattle.zk_objects.specs.Kept.{IsObject, IsStateOf, object_reply, init_reply, answered, target_of, object_of, granted_after}
 use Rattle.zk_objects.specs.Kept.{makes_public, makes_ready, IsChanged, AreChanged}
 

@@ -13,7 +13,8 @@ use Rattle.zk_model_bus.specs.declared.table.TableReply.TheVariants.{Done, Alrea
 use Rattle.zk_model_bus.specs.Table.{Table, is_thread, is_allowed, is_public, is_ready, is_user, is_dead}
 use Rattle.zk_base.specs.Kinds.{meets, is_any}
 use Rattle.zk_objects.specs.declared.object.Object.{Object}
-use Rattle.zk_objects.specs.Players.{Marked, has, is_marked}
+use Rattle.zk_player_set.specs.Players.{has}
+use Rattle.zk_objects.specs.Players.{Marked, is_marked}
 
 -- the permissions and the flags of an object say what the last words of the history say, of every player
 pub record IsObject (t : Table) (object : ℕ) (x : Object) : Type 0 where

@@ -6,10 +6,10 @@ ghost use Rattle.zk_objects.specs.Players.{is_marked};
 use crate::first::{first_objects, first_users};
 use crate::marks::Marks;
 use crate::object::{Object, answer, change};
-use crate::player_set::PlayerSet;
 use std::alloc::Global;
 use zk_base::{Engine, NoMemory, Who};
 use zk_model_bus::{TableOp, TableReply, TableSetup, TableState, is_for};
+use zk_player_set::PlayerSet;
 
 /// What the object table keeps: the permissions and the flags of each object, who is a user, and who is dead.
 #[derive(Drop)]

@@ -3,13 +3,13 @@ ghost use Rattle.zk_base.specs.Limits.{most_players};
 ghost use Rattle.zk_model_bus.specs.Table.{IsSetup, new_table};
 ghost use Rattle.zk_objects.specs.Kept.{IsObject};
 ghost use Rattle.zk_objects.specs.First.{AreFirst, ArePlayers, allowing, declares_user, IsFirstThread};
-ghost use Rattle.zk_objects.specs.Players.{has};
+ghost use Rattle.zk_player_set.specs.Players.{has};
 
 use crate::object::{Object, grant};
-use crate::player_set::PlayerSet;
 use std::alloc::Global;
 use zk_base::{MOST_PLAYERS, NoMemory};
 use zk_model_bus::{Kind, TableSetup};
+use zk_player_set::PlayerSet;
 
 /// The player is a user at first.
 fn begins_as_user(threads: &[(u32, bool)], player: u32) -> bool

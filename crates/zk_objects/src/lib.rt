@@ -1,12 +1,10 @@
 //! The object table as a service: for each object the set of the players that have permission on it.
 #![tactic(auto)]
 
-mod bits;
 mod engine;
 mod first;
 mod marks;
 mod object;
 mod objects;
-mod player_set;
 
 pub use objects::Objects;

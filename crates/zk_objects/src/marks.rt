@@ -2,10 +2,10 @@ ghost use Rattle.std.specs.Prelude.{◌≡◌, ℕ, ◌==◌, ◌||◌, ◌+◌,
 ghost use Rattle.std.specs.List.{list_any};
 ghost use Rattle.zk_objects.specs.Players.{is_marked};
 
-use crate::player_set::PlayerSet;
 use std::alloc::Global;
 use std::marker::Model;
 use zk_base::{MOST_PLAYERS, NoMemory};
+use zk_player_set::PlayerSet;
 
 /// The players that are marked, of any number: the set of those that a scenario can have, and a list of any above them.
 #[derive(Drop)]

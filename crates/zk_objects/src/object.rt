@@ -4,9 +4,9 @@ ghost use Rattle.zk_base.specs.Limits.{most_players};
 ghost use Rattle.zk_model_bus.specs.declared.table.TableOp.TheVariants.{Grant};
 ghost use Rattle.zk_objects.specs.Kept.{object_reply, checked, init_reply, answered, target_of, object_of, IsChanged, AreChanged};
 
-use crate::player_set::PlayerSet;
 use zk_base::MOST_PLAYERS;
 use zk_model_bus::{Kind, Need, OopsWhy, TableOp, TableReply};
+use zk_player_set::PlayerSet;
 
 /// What is kept of an object.
 #[derive(Clone, Copy)]

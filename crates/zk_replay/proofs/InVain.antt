@@ -1,10 +1,9 @@
 -- A player that had no possible attempt has none, as long as what it asked for is in vain still.
-use Rattle.std.proofs.Common.{◌≡◌, ◌≢◌, ◌⊎◌, inl, inr, ℕ, zero, suc, ◌+◌, ◌≤◌, Bool, true, false, Option, Some, None, Result, Ok, Err, IfOk, is_some, List, [], ◌∷◌, ◌++◌, length, map, set, take, drop, All, refl, sym, ap, subst, ◌∙◌, arith, length-append}
+use Rattle.std.proofs.Common.{◌≡◌, ◌≢◌, ◌⊎◌, inl, inr, ℕ, zero, suc, ◌+◌, ◌≤◌, Bool, true, false, Option, Some, None, is_some, List, [], ◌∷◌, ◌++◌, length, map, set, take, drop, All, refl, sym, ap, subst, ◌∙◌, arith, length-append}
 use Rattle.std.proofs.lemmas.List.{append-nil, take-append-le}
 use Rattle.std.proofs.lemmas.List.Elements.{All-nil, All-cons, All-head, All-tail}
 use Rattle.std.specs.List.{slice_get, AllZip}
 use Rattle.std.specs.Option.{option_map, option_and_then}
-use Rattle.zk_base.specs.declared.errors.NoMemory.{NoMemory}
 use Rattle.zk_base.specs.declared.ids.Who.{Who}
 use Rattle.zk_base.specs.declared.ids.Entry.{Entry}
 use Rattle.zk_base.specs.declared.seen.Seen.{Seen}
@@ -34,7 +33,6 @@ use Rattle.zk_worker.specs.Shown.{Shown, shown_after}
 use Rattle.zk_worker.specs.Single.{answer_in}
 use Rattle.zk_worker.proofs.Between.{longer-none, longer-both, longer-none_each, longer-both_each}
 use Rattle.zk_worker.proofs.Lists.{slice_get-set}
-use Rattle.zk_replay.specs.declared.turns.Turn.{Turn}
 use Rattle.zk_replay.specs.declared.last_turn.Asked.{Asked}
 use Rattle.zk_replay.specs.declared.last_turn.LastTurn.{LastTurn}
 use Rattle.zk_world.specs.World.{world}
@@ -93,7 +91,7 @@ one-still : (m : Machines) (old new : Shown) (who : Who) → IsEarlier old new �
 one-still m old new who grew step none (inl same) = reply-same m old new who grew step same ∙ none
 one-still m old new who grew step none (inr futile) = futile
 
-none_first : (step : Step) (o : Option StepReply) (rest : Option (Step × StepReply)) → or_else step o rest ≡ None → (o ≡ None) × (rest ≡ None)
+pub none_first : (step : Step) (o : Option StepReply) (rest : Option (Step × StepReply)) → or_else step o rest ≡ None → (o ≡ None) × (rest ≡ None)
 none_first step None rest none = (refl, none)
 none_first step (Some r) rest none = absurd (cc)
 
@@ -179,7 +177,7 @@ earlier-turn : (old new : Shown) (who : Who) (n : ℕ) (made : Option (Step × S
 earlier-turn old new who n None shows = subst (IsEarlier old) (sym shows) (earlier-here old)
 earlier-turn old new who n (Some made) shows = subst (IsEarlier old) (sym shows) (earlier-after old who n made.0 made.1)
 
-none_or : {A : Type 0} (o : Option A) → false ≡ is_some o → o ≡ None
+pub none_or : {A : Type 0} (o : Option A) → false ≡ is_some o → o ≡ None
 none_or None is = refl
 none_or (Some x) is = absurd (cc)
 
@@ -251,16 +249,6 @@ kept-turned m s old new players players' waiting waiting' p at at' kept' moved w
     subst (λ (ps : List PlayerPlace). AreKept m s (world new ps) waiting') (sym written)
     (subst (λ (ws : List LastTurn). AreKept m s (world new (set players p at')) ws) (sym noted)
     (kept-each m s old new players waiting p at' kept' were (earlier-turn old new at.who (length at.spots) (chosen m s old at) turn.shows) here))
-
--- the same of a turn in the code, which may have had no memory
-pub kept-if : (m m' : Machines) (s : Content) (result : Result Turn NoMemory) (old new : Shown) (players players' : List PlayerPlace) (waiting waiting' : List LastTurn) (p : ℕ) (at at' : PlayerPlace)
-    (kept' : LastTurn) → m ≡ m' → AreKept m' s (world old players) waiting → players' ≡ set players p at' → waiting' ≡ set waiting p kept' →
-    IfOk result (λ told. IsTurn m s at at' old new told.moved) → IfOk result (λ told. IsKept m s new at' kept') → IfOk result (λ told. AreKept m' s (world new players') waiting')
-kept-if m m' s (Ok told) old new players players' waiting waiting' p at at' kept' same were written noted turn here =
-    kept-turned m' s old new players players' waiting waiting' p at at' kept' told.moved were
-    (subst (λ (x : Machines). IsTurn x s at at' old new told.moved) same turn) written noted
-    (subst (λ (x : Machines). IsKept x s new at' kept') same here)
-kept-if m m' s (Err e) old new players players' waiting waiting' p at at' kept' same were written noted turn here = tt
 
 module _ {A B : Type 0} (f : A → B) where
   -- so many of a list are all of it, where it has no more

@@ -1,7 +1,10 @@
+pub mod Asleep
 pub mod Choosing
 pub mod InVain
+pub mod Listed
 pub mod OneRun
 pub mod Rounds
 pub mod Runs
 pub mod StillRounds
+pub mod Told
 pub mod Unserved

@@ -1,8 +1,7 @@
 -- Turns and rounds as the definition has them.
-use Rattle.std.proofs.Common.{◌≡◌, ℕ, zero, suc, ◌+◌, ◌<◌, Bool, ◌||◌, true, false, cond, Option, Some, None, Result, Ok, Err, IfOk, List, length, set, refl, sym, ap, subst, ◌∙◌, arith, is_some}
+use Rattle.std.proofs.Common.{◌≡◌, ℕ, zero, suc, ◌+◌, ◌<◌, Bool, ◌||◌, true, false, cond, Option, Some, None, List, length, set, refl, sym, ap, subst, ◌∙◌, arith, is_some}
 use Rattle.std.specs.List.{slice_get}
 use Rattle.std.proofs.lemmas.Option.{slice_get_within}
-use Rattle.zk_base.specs.declared.errors.NoMemory.{NoMemory}
 use Rattle.zk_scenario.specs.Content.{Content}
 use Rattle.zk_worker.specs.declared.steps.Step.{Step}
 use Rattle.zk_worker.specs.declared.steps.StepReply.{StepReply}
@@ -119,20 +118,14 @@ module _ (m : Machines) (s : Content) where
   pub rounds-next : (first old new : World) (n : ℕ) → old ≡ rounds m s n first → new ≡ round m s old → new ≡ rounds m s (suc n) first
   rounds-next first old new n so_far next = next ∙ ap (round m s) so_far
 
--- the same of a turn in the code, which may have had no memory
-pub turned-if : (m : Machines) (s : Content) (result : Result Turn NoMemory) (old new : Shown) (players players' : List PlayerPlace) (p : ℕ) (at at' : PlayerPlace) →
+-- the same of a turn in the code
+pub turned-with : (m : Machines) (s : Content) (old new : Shown) (players players' : List PlayerPlace) (p : ℕ) (at at' : PlayerPlace) (told : Turn) →
     m ≡ machines_of s → IsReady s (world old players) → is_spent s (world old players) ≡ false → slice_get players p ≡ Some at → players' ≡ set players p at' →
-    IfOk result (λ told. IsTurn m s at at' old new told.moved) → IfOk result (λ told. told.spent ≡ is_spent_at s at') →
-    IfOk result (λ told. Turned m s (world old players) (world new players') p told)
-turned-if m s (Ok told) old new players players' p at at' of_scenario ready unspent is written turn spent =
-    turned-from m s old new players players' p at at' told (chosen m s old at) of_scenario ready unspent is refl
-    turn.shows turn.place written turn.moves spent
-turned-if m s (Err e) old new players players' p at at' of_scenario ready unspent is written turn spent = tt
-
--- what a turn leaves, by the machines of the services
-pub turned-at : (m m' : Machines) (s : Content) (old new : World) (p : ℕ) (result : Result Turn NoMemory) → m ≡ m' →
-    IfOk result (λ told. Turned m s old new p told) → IfOk result (λ told. Turned m' s old new p told)
-turned-at m m' s old new p result same turned = subst (λ (x : Machines). IfOk result (λ told. Turned x s old new p told)) same turned
+    IsTurn m s at at' old new told.moved → told.spent ≡ is_spent_at s at' → Turned (machines_of s) s (world old players) (world new players') p told
+turned-with m s old new players players' p at at' told of_scenario ready unspent is written turn spent =
+    subst (λ (x : Machines). Turned x s (world old players) (world new players') p told) of_scenario
+    (turned-from m s old new players players' p at at' told (chosen m s old at) of_scenario ready unspent is refl
+    turn.shows turn.place written turn.moves spent)
 
 -- what a round leaves doesn't rest on how its course is written
 pub rounded-at : (m : Machines) (s : Content) (old new : World) (course course' : RoundEnd) → course ≡ course' →

@@ -4,6 +4,7 @@
 mod last_turn;
 mod laws;
 mod run;
+mod sleepers;
 mod turns;
 
 pub use laws::{none_goes_on, none_is_served, one_run};

@@ -11,8 +11,11 @@ ghost use Rattle.zk_world.specs.World.{world, is_spent};
 ghost use Rattle.zk_replay.specs.RoundRobin.{turn, round, rounds};
 ghost use Rattle.zk_replay.specs.Turning.{made_step, IsAlone, IsTurn, Turned, Rounded};
 ghost use Rattle.zk_replay.specs.LastTurns.{IsKept, AreKept};
+ghost use Rattle.zk_replay.specs.Sleeping.{AreAsleep};
+ghost use Rattle.zk_player_set.specs.Players.{has};
 
 use crate::last_turn::{LastTurn, is_in_vain, keep, no_turns};
+use crate::sleepers::{Sleepers, fall_asleep, is_asleep, no_sleepers, wake};
 use std::alloc::Global;
 use zk_base::NoMemory;
 use zk_scenario::Scenario;
@@ -108,12 +111,14 @@ fn play_or_pass<V: Counted>(
     Ok(turn)
 }
 
-/// A turn of the player of this number.
+/// A turn of the player of this number, which is awake. It falls asleep where the turn was in vain, and else wakes others by its
+/// step.
 fn take_turn<V: Counted>(
     services: &mut V,
     scenario: &Scenario,
     players: &mut Vec<Player>,
     waiting: &mut Vec<LastTurn>,
+    sleepers: &mut Sleepers,
     number: usize,
 ) -> Result<Turn, NoMemory>
     requires valid { IsValid scenario.now }
@@ -122,6 +127,9 @@ fn take_turn<V: Counted>(
     requires unspent { is_spent scenario.now (world (V.shown services.old) players.old.items) ≡ false }
     requires kept { AreKept (machines_of scenario.now) scenario.now
         (world (V.shown services.old) players.old.items) waiting.old.items }
+    requires asleep { AreAsleep (machines_of scenario.now) scenario.now
+        (world (V.shown services.old) players.old.items) sleepers.old }
+    requires awake { has sleepers.old.asleep number ≡ false }
     requires places { vec_len waiting.old ≡ vec_len players.old }
     requires number { number < vec_len players.old }
     ensures turned { IfOk result (λ turn.
@@ -130,13 +138,63 @@ fn take_turn<V: Counted>(
         (world (V.shown services.new) players.new.items) number turn) }
     ensures kept { IfOk result (λ turn. AreKept (machines_of scenario.now) scenario.now
         (world (V.shown services.new) players.new.items) waiting.new.items) }
+    ensures asleep { IfOk result (λ turn. AreAsleep (machines_of scenario.now) scenario.now
+        (world (V.shown services.new) players.new.items) sleepers.new) }
     ensures alone { IsAlone scenario.now (V.alone services.new) (V.machines services.new) (V.serves services.new) }
     ensures players { vec_len players.new ≡ vec_len players.old }
     ensures places { vec_len waiting.new ≡ vec_len waiting.old }
 {
     let player = &mut players[number];
     let kept = &mut waiting[number];
-    play_or_pass(services, scenario, player, kept)
+    let turn = play_or_pass(services, scenario, player, kept)?;
+    if turn.moved {
+        wake(player, sleepers);
+        return Ok(turn);
+    }
+    fall_asleep(kept, number, sleepers);
+    Ok(turn)
+}
+
+/// A turn of the player of this number. Where it sleeps it isn't asked.
+// In line: most of the time most players sleep.
+#[inline(always)]
+fn turn_of<V: Counted>(
+    services: &mut V,
+    scenario: &Scenario,
+    players: &mut Vec<Player>,
+    waiting: &mut Vec<LastTurn>,
+    sleepers: &mut Sleepers,
+    number: usize,
+) -> Result<Turn, NoMemory>
+    requires valid { IsValid scenario.now }
+    requires alone { IsAlone scenario.now (V.alone services.old) (V.machines services.old) (V.serves services.old) }
+    requires ready { IsReady scenario.now (world (V.shown services.old) players.old.items) }
+    requires unspent { is_spent scenario.now (world (V.shown services.old) players.old.items) ≡ false }
+    requires kept { AreKept (machines_of scenario.now) scenario.now
+        (world (V.shown services.old) players.old.items) waiting.old.items }
+    requires asleep { AreAsleep (machines_of scenario.now) scenario.now
+        (world (V.shown services.old) players.old.items) sleepers.old }
+    requires places { vec_len waiting.old ≡ vec_len players.old }
+    requires number { number < vec_len players.old }
+    ensures turned { IfOk result (λ turn.
+        Turned (machines_of scenario.now) scenario.now
+        (world (V.shown services.old) players.old.items)
+        (world (V.shown services.new) players.new.items) number turn) }
+    ensures kept { IfOk result (λ turn. AreKept (machines_of scenario.now) scenario.now
+        (world (V.shown services.new) players.new.items) waiting.new.items) }
+    ensures asleep { IfOk result (λ turn. AreAsleep (machines_of scenario.now) scenario.now
+        (world (V.shown services.new) players.new.items) sleepers.new) }
+    ensures alone { IsAlone scenario.now (V.alone services.new) (V.machines services.new) (V.serves services.new) }
+    ensures players { vec_len players.new ≡ vec_len players.old }
+    ensures places { vec_len waiting.new ≡ vec_len waiting.old }
+{
+    if is_asleep(sleepers, number) {
+        return Ok(Turn {
+            moved: false,
+            spent: false,
+        });
+    }
+    take_turn(services, scenario, players, waiting, sleepers, number)
 }
 
 /// A turn of each player in order, but not beyond one that is spent by its turn.
@@ -145,6 +203,7 @@ fn play_round<V: Counted>(
     scenario: &Scenario,
     players: &mut Vec<Player>,
     waiting: &mut Vec<LastTurn>,
+    sleepers: &mut Sleepers,
 ) -> Result<RoundEnd, NoMemory>
     requires valid { IsValid scenario.now }
     requires alone { IsAlone scenario.now (V.alone services.old) (V.machines services.old) (V.serves services.old) }
@@ -152,6 +211,8 @@ fn play_round<V: Counted>(
     requires unspent { is_spent scenario.now (world (V.shown services.old) players.old.items) ≡ false }
     requires kept { AreKept (machines_of scenario.now) scenario.now
         (world (V.shown services.old) players.old.items) waiting.old.items }
+    requires asleep { AreAsleep (machines_of scenario.now) scenario.now
+        (world (V.shown services.old) players.old.items) sleepers.old }
     requires places { vec_len waiting.old ≡ vec_len players.old }
     ensures rounded { IfOk result (λ course.
         Rounded (machines_of scenario.now) scenario.now
@@ -159,12 +220,14 @@ fn play_round<V: Counted>(
         (world (V.shown services.new) players.new.items) course) }
     ensures kept { IfOk result (λ course. AreKept (machines_of scenario.now) scenario.now
         (world (V.shown services.new) players.new.items) waiting.new.items) }
+    ensures asleep { IfOk result (λ course. AreAsleep (machines_of scenario.now) scenario.now
+        (world (V.shown services.new) players.new.items) sleepers.new) }
     ensures places { vec_len waiting.new ≡ vec_len players.new }
     ensures alone { IsAlone scenario.now (V.alone services.new) (V.machines services.new) (V.serves services.new) }
 {
     let mut moved = false;
     for number in 0..players.len() {
-        let turn = take_turn(services, scenario, players, waiting, number)?;
+        let turn = turn_of(services, scenario, players, waiting, sleepers, number)?;
         if turn.spent {
             return Ok(RoundEnd::Spent);
         }
@@ -197,9 +260,10 @@ pub fn play_rounds<V: Counted>(
         ≡ world (V.shown services.new) players.new.items) }
     ensures alone { IsAlone scenario.now (V.alone services.new) (V.machines services.new) (V.serves services.new) }
 {
+    let mut sleepers = no_sleepers(alloc, scenario)?;
     let mut waiting = no_turns(alloc, players.len())?;
     loop {
-        match play_round(services, scenario, players, &mut waiting)? {
+        match play_round(services, scenario, players, &mut waiting, &mut sleepers)? {
             RoundEnd::Goes => {}
             RoundEnd::Still => return Ok(()),
             RoundEnd::Spent => return Ok(()),

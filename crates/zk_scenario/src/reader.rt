@@ -532,7 +532,7 @@ fn push_call(current: &mut Option<Script>, call: &Call) -> Result<(), NoMemory>
 {
     let _known: Option<Ref> = None;
     match current {
-        Some(script) => script.calls.push(*call),
+        Some(script) => script.calls.push_copy(call),
         None => Ok(()),
     }
 }

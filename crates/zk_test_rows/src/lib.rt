@@ -6,6 +6,8 @@
 #[cfg(test)]
 mod cores_tests;
 #[cfg(test)]
+mod look_tests;
+#[cfg(test)]
 mod order_tests;
 #[cfg(test)]
 mod picture_tests;

@@ -31,6 +31,7 @@ pub mod SpotRead
 pub mod LookRead
 pub mod AnswerRead
 pub mod Looks
+pub mod LookLines
 pub mod Looked
 pub mod Text
 pub mod Shown

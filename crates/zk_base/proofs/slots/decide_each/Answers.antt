@@ -10,6 +10,6 @@ loop-slot-preserved g c =
     let i = c.loop-slot.slot-index in
     let below = c.loop-slot-test.true in
     let same = c.loop-slot.auto.slots in
-    ap (set ys i) c.decided_where_waiting.ensures
+    ap (set ys i) c.decide_where_waiting.ensures
     ∙ map_over_more (decided_all c.args.number c.args.answer) c.args.slots.now ys i _ below c.loop-slot.invariant
     (get_or_default ys i _ _ (omega arith))

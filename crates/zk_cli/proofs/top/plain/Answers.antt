@@ -18,6 +18,10 @@ pub returns-in-Some-Migrate-clause-went : goal.returns-in-Some-Migrate-clause-we
 returns-in-Some-Migrate-clause-went g c =
     Went-for _ _ _ _ _ _ _ _ _ _ _ (sym c.form_of.ensures ∙ c.in-Some-Migrate.is ∙ ap Some c.in-Some-Migrate.field-0-is) c.answer_migrate.ensures.went
 
+pub returns-in-Some-Trigger-clause-went : goal.returns-in-Some-Trigger-clause-went
+returns-in-Some-Trigger-clause-went g c =
+    Went-for _ _ _ _ _ _ _ _ _ _ _ (sym c.form_of.ensures ∙ c.in-Some-Trigger.is ∙ ap Some c.in-Some-Trigger.field-0-is) c.answer_trigger.ensures.went
+
 pub returns-in-Some-Soak-clause-went : goal.returns-in-Some-Soak-clause-went
 returns-in-Some-Soak-clause-went g c =
     Went-soaked _ _ _ _ _ _ _ _ c.in-Some-Soak.number [] (sym c.form_of.ensures ∙ c.in-Some-Soak.is ∙ ap Some c.in-Some-Soak.field-0-is)
@@ -37,6 +41,10 @@ returns-in-Some-Check-clause-most g c =
 pub returns-in-Some-Migrate-clause-most : goal.returns-in-Some-Migrate-clause-most
 returns-in-Some-Migrate-clause-most g c =
     taken-for _ _ _ _ (sym c.form_of.ensures ∙ c.in-Some-Migrate.is ∙ ap Some c.in-Some-Migrate.field-0-is) c.answer_migrate.ensures.most
+
+pub returns-in-Some-Trigger-clause-most : goal.returns-in-Some-Trigger-clause-most
+returns-in-Some-Trigger-clause-most g c =
+    taken-for _ _ _ _ (sym c.form_of.ensures ∙ c.in-Some-Trigger.is ∙ ap Some c.in-Some-Trigger.field-0-is) c.answer_trigger.ensures.most
 
 pub returns-in-Some-Soak-clause-most : goal.returns-in-Some-Soak-clause-most
 returns-in-Some-Soak-clause-most g c =

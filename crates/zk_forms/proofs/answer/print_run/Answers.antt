@@ -1,5 +1,4 @@
 use Rattle.std.proofs.Common.{ℕ, Some, List, ◌++◌, refl, sym, ap, ◌∙◌, subst}
-use Rattle.zk_base.specs.declared.errors.Status.{Status}
 use Rattle.zk_base.specs.Legal.{IsLegal}
 use Rattle.zk_base.proofs.Histories.{IsLegal-front}
 use Rattle.zk_model_wait.specs.Clock.{new_clock, clock_machine}

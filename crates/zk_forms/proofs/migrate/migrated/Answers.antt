@@ -1,5 +1,4 @@
-use Rattle.std.proofs.Common.{◌≡◌, ℕ, ◌+◌, ◌++◌, length, arith, ap, subst, ◌∙◌}
-use Rattle.zk_scenario.specs.Spelling.{text_of}
+use Rattle.std.proofs.Common.{◌≡◌, ℕ, ◌+◌, length, arith, subst}
 use Rattle.zk_trace.specs.declared.format.Formats.TheVariants.{First}
 use Rattle.zk_trace.specs.Feeds.{lines_in}
 use Rattle.zk_trace.specs.TraceRead.{IsRefusedAt}

@@ -1,7 +1,7 @@
 use Rattle.std.proofs.Common.{sym, ap, ◌∙◌}
-use Rattle.zk_objects.specs.declared.player_set.PlayerSet.{PlayerSet}
+use Rattle.zk_player_set.specs.declared.player_set.PlayerSet.{PlayerSet}
 use Rattle.zk_objects.specs.First.{declares_user}
-use Rattle.zk_objects.specs.Players.{has}
+use Rattle.zk_player_set.specs.Players.{has}
 use Rattle.zk_objects.proofs.Firsts.{one-more, none-more, all-seen}
 use Rattle.zk_objects.proofs.first.first_users.Goals as goal
 use Rattle.zk_objects.proofs.first.first_users.Goals.{then-begins_as_user, else-begins_as_user}

@@ -1,6 +1,6 @@
 use Rattle.std.proofs.Common.{◌≡◌, ℕ, ltb, ◌&&◌}
 use Rattle.zk_objects.specs.First.{declares_user}
-use Rattle.zk_objects.specs.Players.{has}
+use Rattle.zk_player_set.specs.Players.{has}
 use Rattle.zk_objects.proofs.first.first_users.Given as goal
 
 abbrev pub invariant-loop-player : goal.invariant-loop-player

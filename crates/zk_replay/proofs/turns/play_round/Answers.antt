@@ -11,7 +11,7 @@ returns-then-turn-clause-rounded g c =
     let p = c.loop-number.number in
     let old = world (g.V.Services.shown c.args.services.now) c.args.players.now.items in
     let now = world (g.V.Services.shown c.loop-number.services) c.loop-number.players.items in
-    let new = world (g.V.Services.shown c.take_turn.new.services) c.take_turn.new.players.items in
+    let new = world (g.V.Services.shown c.turn_of.new.services) c.turn_of.new.players.items in
     let n = c.len-number-end.result - (p + 1) in
     within-spent m s old now new c.loop-number.moved n p c.in_ok-turn.turn
     (within-left m s old now c.loop-number.moved (c.len-number-end.result - p) (suc n) p (omega arith) c.loop-number.invariant.within)
@@ -25,13 +25,14 @@ loop-number-preserved g c =
     let p = c.loop-number.number in
     let old = world (g.V.Services.shown c.args.services.now) c.args.players.now.items in
     let now = world (g.V.Services.shown c.loop-number.services) c.loop-number.players.items in
-    let new = world (g.V.Services.shown c.take_turn.new.services) c.take_turn.new.players.items in
+    let new = world (g.V.Services.shown c.turn_of.new.services) c.turn_of.new.players.items in
     let n = c.len-number-end.result - (p + 1) in
     record {
-      alone = c.take_turn.ensures.alone;
-      count = c.take_turn.ensures.players ∙ c.loop-number.invariant.count;
-      places = c.take_turn.ensures.places ∙ c.loop-number.invariant.places ∙ sym c.take_turn.ensures.players;
+      alone = c.turn_of.ensures.alone;
+      count = c.turn_of.ensures.players ∙ c.loop-number.invariant.count;
+      places = c.turn_of.ensures.places ∙ c.loop-number.invariant.places ∙ sym c.turn_of.ensures.players;
       kept = c.in_ok-turn.ensures.kept;
+      asleep = c.in_ok-turn.ensures.asleep;
       within = within-next m s old now new c.loop-number.moved n p c.in_ok-turn.turn
           (within-left m s old now c.loop-number.moved (c.len-number-end.result - p) (suc n) p (omega arith) c.loop-number.invariant.within)
           c.in_ok-turn.ensures.turned

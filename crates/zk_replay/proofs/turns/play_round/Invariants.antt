@@ -3,6 +3,7 @@ use Rattle.zk_worker.specs.Machines.{machines_of}
 use Rattle.zk_world.specs.World.{world}
 use Rattle.zk_replay.specs.Turning.{IsAlone, WithinRound}
 use Rattle.zk_replay.specs.LastTurns.{AreKept}
+use Rattle.zk_replay.specs.Sleeping.{AreAsleep}
 use Rattle.zk_replay.proofs.turns.play_round.Given as goal
 
 abbrev pub invariant-loop-number : goal.invariant-loop-number
@@ -12,6 +13,7 @@ invariant-loop-number g l =
       count : vec_len l.players ≡ l.number-end;
       places : vec_len l.waiting ≡ vec_len l.players;
       kept : AreKept (machines_of l.scenario) l.scenario (world (g.V.Services.shown l.services) l.players.items) l.waiting.items;
+      asleep : AreAsleep (machines_of l.scenario) l.scenario (world (g.V.Services.shown l.services) l.players.items) l.sleepers;
       within : WithinRound (machines_of l.scenario) l.scenario (world (g.V.Services.shown l.initial.services) l.initial.players.items)
           (world (g.V.Services.shown l.services) l.players.items) l.moved (l.number-end - l.number) l.number;
     }

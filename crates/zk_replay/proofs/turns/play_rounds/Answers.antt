@@ -21,6 +21,7 @@ loop-waiting-preserved g c =
       unspent = rounded.goes.0;
       places = c.play_round.ensures.places;
       kept = c.in_ok-play_round.ensures.kept;
+      asleep = c.in_ok-play_round.ensures.asleep;
       so_far = (suc so_far.0, rounds-next m s first old new so_far.0 so_far.1 rounded.next);
     }
 

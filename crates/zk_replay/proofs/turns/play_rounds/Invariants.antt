@@ -5,6 +5,7 @@ use Rattle.zk_world.specs.World.{world, is_spent}
 use Rattle.zk_replay.specs.RoundRobin.{rounds}
 use Rattle.zk_replay.specs.Turning.{IsAlone}
 use Rattle.zk_replay.specs.LastTurns.{AreKept}
+use Rattle.zk_replay.specs.Sleeping.{AreAsleep}
 use Rattle.zk_replay.proofs.turns.play_rounds.Given as goal
 
 abbrev pub invariant-loop-waiting : goal.invariant-loop-waiting
@@ -16,6 +17,7 @@ invariant-loop-waiting g l =
       ready : IsReady l.scenario now;
       places : vec_len l.waiting ≡ vec_len l.players;
       kept : AreKept (machines_of l.scenario) l.scenario now l.waiting.items;
+      asleep : AreAsleep (machines_of l.scenario) l.scenario now l.sleepers;
       unspent : is_spent l.scenario now ≡ false;
       so_far : (n : ℕ) × (now ≡ rounds (machines_of l.scenario) l.scenario n old);
     }

@@ -49,7 +49,7 @@ invariant_of-self g c =
     let found = found-at c.deref.ensures.value c.self.invariant.kept.rises c.in_ok-index.index s c.in_ok-index.ensures.within
     (c.in_ok-index.ensures.found s) in
     let is = ap (answer_for c.args.player) (sym c.index.ensures) ∙ sym c.answer_for.ensures ∙ c.in_ok-answer.was in
-    let new = c.over.ensures ∙ ap over (c.index-2.ensures ∙ get_or_default c.self.inside.slots.items c.in_ok-index.index _ s
+    let new = c.end.ensures ∙ ap over (c.index_mut.ensures.value ∙ get_or_default c.self.inside.slots.items c.in_ok-index.index _ s
     found.within) in
     let after = when-ended c.self.invariant c.args.player found new c.close_up-self-inside.ensures.slots
     c.close_up-self-inside.ensures.half
@@ -71,7 +71,7 @@ returns-clause-waits g c =
     let found = found-at c.deref.ensures.value c.self.invariant.kept.rises c.in_ok-index.index s c.in_ok-index.ensures.within
     (c.in_ok-index.ensures.found s) in
     let is = ap (answer_for c.args.player) (sym c.index.ensures) ∙ sym c.answer_for.ensures ∙ c.in_ok-answer.was in
-    let new = c.over.ensures ∙ ap over (c.index-2.ensures ∙ get_or_default c.self.inside.slots.items c.in_ok-index.index _ s
+    let new = c.end.ensures ∙ ap over (c.index_mut.ensures.value ∙ get_or_default c.self.inside.slots.items c.in_ok-index.index _ s
     found.within) in
     let after = when-ended c.self.invariant c.args.player found new c.close_up-self-inside.ensures.slots
     c.close_up-self-inside.ensures.half
@@ -84,7 +84,7 @@ returns-clause-open g c =
     let found = found-at c.deref.ensures.value c.self.invariant.kept.rises c.in_ok-index.index s c.in_ok-index.ensures.within
     (c.in_ok-index.ensures.found s) in
     let is = ap (answer_for c.args.player) (sym c.index.ensures) ∙ sym c.answer_for.ensures ∙ c.in_ok-answer.was in
-    let new = c.over.ensures ∙ ap over (c.index-2.ensures ∙ get_or_default c.self.inside.slots.items c.in_ok-index.index _ s
+    let new = c.end.ensures ∙ ap over (c.index_mut.ensures.value ∙ get_or_default c.self.inside.slots.items c.in_ok-index.index _ s
     found.within) in
     let after = when-ended c.self.invariant c.args.player found new c.close_up-self-inside.ensures.slots
     c.close_up-self-inside.ensures.half

@@ -59,7 +59,7 @@ invariant_of-self g c =
     let found = found-at c.deref.ensures.value c.self.invariant.kept.rises c.in-Some.index s c.in-Some.ensures.within
     (c.in-Some.ensures.found s) in
     let is = ap (waits_for c.args.player) (sym c.index.ensures) ∙ sym c.waits_for.ensures ∙ c.if-not-waits_for.false in
-    let new = c.over.ensures ∙ ap over (c.index-2.ensures ∙ get_or_default c.self.inside.slots.items c.in-Some.index _ s
+    let new = c.end.ensures ∙ ap over (c.index_mut.ensures.value ∙ get_or_default c.self.inside.slots.items c.in-Some.index _ s
     found.within) in
     let after = when-left c.self.invariant c.args.player found new c.close_up-self-inside.ensures.slots
     c.close_up-self-inside.ensures.half
@@ -81,7 +81,7 @@ returns-clause-waits g c =
     let found = found-at c.deref.ensures.value c.self.invariant.kept.rises c.in-Some.index s c.in-Some.ensures.within
     (c.in-Some.ensures.found s) in
     let is = ap (waits_for c.args.player) (sym c.index.ensures) ∙ sym c.waits_for.ensures ∙ c.if-not-waits_for.false in
-    let new = c.over.ensures ∙ ap over (c.index-2.ensures ∙ get_or_default c.self.inside.slots.items c.in-Some.index _ s
+    let new = c.end.ensures ∙ ap over (c.index_mut.ensures.value ∙ get_or_default c.self.inside.slots.items c.in-Some.index _ s
     found.within) in
     let after = when-left c.self.invariant c.args.player found new c.close_up-self-inside.ensures.slots
     c.close_up-self-inside.ensures.half
@@ -94,7 +94,7 @@ returns-clause-open g c =
     let found = found-at c.deref.ensures.value c.self.invariant.kept.rises c.in-Some.index s c.in-Some.ensures.within
     (c.in-Some.ensures.found s) in
     let is = ap (waits_for c.args.player) (sym c.index.ensures) ∙ sym c.waits_for.ensures ∙ c.if-not-waits_for.false in
-    let new = c.over.ensures ∙ ap over (c.index-2.ensures ∙ get_or_default c.self.inside.slots.items c.in-Some.index _ s
+    let new = c.end.ensures ∙ ap over (c.index_mut.ensures.value ∙ get_or_default c.self.inside.slots.items c.in-Some.index _ s
     found.within) in
     let after = when-left c.self.invariant c.args.player found new c.close_up-self-inside.ensures.slots
     c.close_up-self-inside.ensures.half

@@ -1,9 +1,9 @@
 use Rattle.std.proofs.Common.{ℕ, Bool, List, ltb, ◌&&◌, ap, ◌∙◌}
 use Rattle.zk_base.specs.Limits.{most_players}
 use Rattle.zk_model_bus.specs.Table.{Setup}
-use Rattle.zk_objects.specs.declared.player_set.PlayerSet.{PlayerSet}
+use Rattle.zk_player_set.specs.declared.player_set.PlayerSet.{PlayerSet}
 use Rattle.zk_objects.specs.First.{declares_user}
-use Rattle.zk_objects.specs.Players.{has}
+use Rattle.zk_player_set.specs.Players.{has}
 use Rattle.zk_objects.proofs.Firsts.{stands-first}
 use Rattle.zk_objects.proofs.engine.ObjectsEngine.new.Goals as goal
 

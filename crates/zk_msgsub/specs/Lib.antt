@@ -1,0 +1,9 @@
+pub mod Fan
+pub mod FanLaws
+pub mod FanSeen
+pub mod Notes
+pub mod Publishers
+pub mod Rule
+pub mod Seats
+pub mod Steps
+pub mod Views

@@ -1,0 +1,7 @@
+//! Sets of the players of a scenario.
+#![tactic(auto)]
+
+mod bits;
+mod player_set;
+
+pub use player_set::PlayerSet;

@@ -1,0 +1,9 @@
+pub mod Bits
+pub mod Finding
+pub mod Keeping
+pub mod Owed
+pub mod PumpEntries
+pub mod PumpSteps
+pub mod Rooms
+pub mod Standing
+pub mod Taking
