@@ -1,0 +1,4 @@
+pub mod Event
+pub mod EventLaws
+pub mod EventWaits
+pub mod Seen
