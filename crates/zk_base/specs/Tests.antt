@@ -1,3 +1,5 @@
+-- Inner: no contract of a top call is made of this file.
+
 use Rattle.std.specs.Prelude.{◌≡◌}
 use Rattle.std.specs.Fn.{FnReturnsAt}
 use denote.Param.Members.{Shared}

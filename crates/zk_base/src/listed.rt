@@ -1,6 +1,6 @@
 ghost use Rattle.std.specs.Prelude.{◌≡◌, ◌+◌, [], ◌∷◌, ◌++◌, OnOk, OnErr, length, List};
 
-use crate::{NoMemory, push_within};
+use crate::NoMemory;
 use std::alloc::Global;
 use std::marker::Model;
 
@@ -61,15 +61,14 @@ impl<T> Listed<T> {
         Ok(())
     }
 
-    /// A copy of an item more at the end. The room is made first, so that a large item is copied once.
-    pub fn push_copy(&mut self, item: &T) -> Result<(), NoMemory>
+    /// Copies of these items more at the end, each copied once: a large item goes by this, as a slice of one.
+    pub fn extend_from_slice(&mut self, other: &[T]) -> Result<(), NoMemory>
     where
         T: Copy,
-        ensures ok { OnOk result (self.new ≡ self.old ++ item.now ∷ []) }
+        ensures ok { OnOk result (self.new ≡ self.old ++ other.now) }
         ensures err { OnErr result (self.new ≡ self.old) }
     {
-        self.items.reserve(1)?;
-        push_within(&mut self.items, *item);
+        self.items.extend_from_slice(other)?;
         Ok(())
     }
 }

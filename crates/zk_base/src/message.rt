@@ -11,7 +11,8 @@ pub const LONGEST_MESSAGE: usize = 64;
 pub struct Msg {
     // The message, then zeros.
     bytes: [u8; LONGEST_MESSAGE],
-    len: usize,
+    // How many of them are the message: one byte, so that a message takes 65.
+    len: u8,
 }
 
 impl Model for Msg {
@@ -47,7 +48,7 @@ impl Msg {
         kept[..bytes.len()].copy_from_slice(bytes);
         Some(Msg {
             bytes: kept,
-            len: bytes.len(),
+            len: bytes.len() as u8,
         })
     }
 
@@ -55,7 +56,7 @@ impl Msg {
     pub fn bytes(&self) -> &[u8]
         ensures { result.now ≡ self.now }
     {
-        &self.bytes[..self.len]
+        &self.bytes[..self.len as usize]
     }
 }
 

@@ -1,14 +1,14 @@
 -- The bits of a word, and the sets of players that words make.
-use Rattle.std.proofs.Common.{◌≡◌, ◌≢◌, ℕ, ◌+◌, ◌*◌, ◌-◌, ◌/◌, ◌%◌, ◌^◌, ◌<◌, ◌≤◌, inl, inr, Bool, true, false, not, eqb, ltb, cond, ◌&&◌, ◌||◌}
-use Rattle.std.proofs.Common.{zero, suc, min, w64, List, length, get_or, set, bit_and, bit_or, refl, sym, ap, ◌∙◌, arith}
-use Rattle.std.specs.Int.{bit_at}
+use Rattle.std.proofs.Common.{◌≡◌, ◌≢◌, ℕ, ◌+◌, ◌*◌, ◌-◌, ◌/◌, ◌%◌, ◌^◌, ◌<◌, ◌≤◌, ◌⊎◌, inl, inr, Bool, true, false, not, eqb, ltb, cond, ◌&&◌, ◌||◌}
+use Rattle.std.proofs.Common.{zero, suc, min, w64, List, length, get_or, set, bit_and, bit_or, refl, sym, ap, subst, ◌∙◌, arith}
+use Rattle.std.specs.Int.{bit_at, trailing_ones}
 use Rattle.std.proofs.Math.Bool.{or-false, or-true, and-false, and-true}
 use Rattle.std.proofs.lemmas.Bool.Decides.{nat_tests}
-use Rattle.std.proofs.lemmas.Bool.{eqb-true, eqb-false, ne_eqb, lt-ltb, cases_eq}
+use Rattle.std.proofs.lemmas.Bool.{eqb-true, eqb-false, ne_eqb, lt-ltb, cases_eq, cases_lt}
 use Rattle.std.proofs.lemmas.List.{get_or-set_same, get_or-set_other}
 use Rattle.std.proofs.lemmas.Nat.{and_or_self, and_or_apart, and_assoc, and-not, and_block, and_le_r, pow_apart, pow_pos}
-use Rattle.std.proofs.lemmas.Nat.{pow_below, mod_below}
-use Rattle.std.proofs.lemmas.Nat.Bits.{and_pow, bit_at_and, bit_at_not, bit_at-lt}
+use Rattle.std.proofs.lemmas.Nat.{pow_below, mod_below, shr-shr, shr_below}
+use Rattle.std.proofs.lemmas.Nat.Bits.{and_pow, bit_at_and, bit_at_not, bit_at-lt, bit_at-trailing_ones, bit_at_above, bit_at_ones}
 use Rattle.zk_base.specs.Limits.{most_players}
 use Rattle.zk_player_set.specs.Players.{word_bits, has_bit, with_bit, without_bit, has_player}
 
@@ -215,3 +215,95 @@ without-all words others made at player all so_far = by (ltb player most_players
       (b && has_player made player) ≡ ((b && has_player words player) && not (b && has_player others player))
   by true is = let below : player < most_players = grind (arith, nat_tests) in so_far.done player (omega (arith, below, all))
   by false is = refl
+
+-- the bits of a word from one on, moved down
+moved-bit : (word bit i : ℕ) → has_bit (word / 2 ^ bit) i ≡ has_bit word (bit + i)
+moved-bit word bit i =
+    has-at (word / 2 ^ bit) i
+    ∙ ap (λ (x : ℕ). eqb (x % 2) 1) (shr-shr word bit i)
+    ∙ sym (has-at word (bit + i))
+
+-- so many bits from one on are set, and no more
+pub record AreOnes (word bit count : ℕ) : Type 0 where
+  pub within : bit + count ≤ word_bits
+  pub ones : (other : ℕ) → bit ≤ other → other < bit + count → has_bit word other ≡ true
+  pub end : bit + count < word_bits → has_bit word (bit + count) ≡ false
+
+-- a bit of a word's upper part
+bit-above : (word bit other : ℕ) → bit ≤ other → bit_at (word / 2 ^ bit) (other - bit) ≡ bit_at word other
+bit-above word bit other low =
+    let place : bit + (other - bit) ≡ other = omega arith in
+    ap (λ (x : ℕ). x % 2) (shr-shr word bit (other - bit)) ∙ ap (bit_at word) place
+
+is-set : (word bit : ℕ) → bit_at word bit ≡ 1 → has_bit word bit ≡ true
+is-set word bit is = has-at word bit ∙ ap (λ (x : ℕ). eqb x 1) is
+
+isnt-set : (word bit : ℕ) → bit_at word bit ≡ 0 → has_bit word bit ≡ false
+isnt-set word bit isnt = has-at word bit ∙ ap (λ (x : ℕ). eqb x 1) isnt
+
+-- all of them are
+pub all-ones : (word bit : ℕ) → word < 2 ^ word_bits → bit < word_bits → word / 2 ^ bit ≡ 2 ^ word_bits - 1 → AreOnes word bit word_bits
+all-ones word bit small below all = record {
+  within = omega (arith, lowest bit refl);
+  ones = λ other low high.
+      is-set word other (sym (bit-above word bit other low)
+      ∙ ap (λ (x : ℕ). bit_at x (other - bit)) all ∙ bit_at_ones word_bits (other - bit) (omega (arith, lowest bit refl)));
+  end = λ high. absurd (omega (arith, high));
+}
+  where
+    lowest : (b : ℕ) → bit ≡ b → b ≡ 0
+    lowest zero is = refl
+    lowest (suc b) is =
+        let split : word_bits - suc b + suc b ≡ word_bits = omega (arith, is, below) in
+        let upper = shr_below word (word_bits - suc b) (suc b) (subst (λ (k : ℕ). word < 2 ^ k) (sym split) small) in
+        let less = pow_below (word_bits - suc b) word_bits (omega arith) in
+        absurd (omega (arith, upper, less, sym (ap (λ (k : ℕ). word / 2 ^ k) is) ∙ all))
+
+-- they end at the first that isn't
+pub some-ones : (word bit : ℕ) → word < 2 ^ word_bits → bit < word_bits → word / 2 ^ bit + 1 < 2 ^ word_bits →
+    AreOnes word bit (trailing_ones w64 (word / 2 ^ bit))
+some-ones word bit small below most = record {
+  within = by (cases_lt word_bits (bit + count));
+  ones = λ other low high. is-set word other (sym (bit-above word bit other low) ∙ it.2 (other - bit) (omega arith));
+  end = λ high.
+      let back : bit + count - bit ≡ count = omega arith in
+      isnt-set word (bit + count) (sym (bit-above word bit (bit + count) (omega arith)) ∙ ap (bit_at (word / 2 ^ bit)) back ∙ it.1);
+}
+  where
+    count : ℕ
+    count = trailing_ones w64 (word / 2 ^ bit)
+
+    it : (count < word_bits) × (bit_at (word / 2 ^ bit) count ≡ 0) × ((i : ℕ) → i < count → bit_at (word / 2 ^ bit) i ≡ 1)
+    it = bit_at-trailing_ones w64 (word / 2 ^ bit) most
+
+    by : (word_bits < bit + count) ⊎ (bit + count ≤ word_bits) → bit + count ≤ word_bits
+    by (inl beyond) =
+        let one = it.2 (word_bits - bit) (omega arith) in
+        let none = bit-above word bit word_bits (omega arith) ∙ bit_at_above word word_bits word_bits small (omega arith) in
+        absurd (omega (arith, one, none))
+    by (inr within) = within
+
+-- the players of a word, from one on: those of its ones are there
+pub follow-all : (words : List ℕ) (player count : ℕ) → player < most_players →
+    AreOnes (get_or words (player / word_bits) 0) (player % word_bits) count →
+    (other : ℕ) → player ≤ other → other < player + count → (ltb other most_players && has_player words other) ≡ true
+follow-all words player count small are other low high =
+    let within = are.within in
+    let place : other / word_bits ≡ player / word_bits = omega (arith, within) in
+    let bit : other % word_bits ≡ player % word_bits + (other - player) = omega (arith, within) in
+    let below : other < most_players = omega (arith, place) in
+    let one = are.ones (player % word_bits + (other - player)) (omega arith) (omega arith) in
+    ap (λ (b : Bool). b && has_player words other) (lt-ltb other most_players below)
+    ∙ ap (λ (at : ℕ). has_bit (get_or words at 0) (other % word_bits)) place
+    ∙ ap (has_bit (get_or words (player / word_bits) 0)) bit ∙ one
+
+-- and the one behind them in that word isn't
+pub follow-end : (words : List ℕ) (player count : ℕ) →
+    AreOnes (get_or words (player / word_bits) 0) (player % word_bits) count →
+    (player + count) / word_bits ≡ player / word_bits → (ltb (player + count) most_players && has_player words (player + count)) ≡ false
+follow-end words player count are place =
+    let bit : (player + count) % word_bits ≡ player % word_bits + count = omega (arith, place) in
+    let none : has_player words (player + count) ≡ false =
+    ap (λ (at : ℕ). has_bit (get_or words at 0) ((player + count) % word_bits)) place
+    ∙ ap (has_bit (get_or words (player / word_bits) 0)) bit ∙ are.end (omega (arith, place)) in
+    ap (λ (b : Bool). ltb (player + count) most_players && b) none ∙ and-false (ltb (player + count) most_players)

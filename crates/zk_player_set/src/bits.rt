@@ -1,4 +1,4 @@
-ghost use Rattle.std.specs.Prelude.{◌≡◌, ℕ, ◌<◌, ◌^◌, ◌&&◌, not};
+ghost use Rattle.std.specs.Prelude.{◌≡◌, ℕ, ◌+◌, ◌<◌, ◌≤◌, ◌^◌, true, false, ◌&&◌, not};
 ghost use Rattle.zk_player_set.specs.Players.{word_bits, has_bit, with_bit, without_bit};
 
 /// The bits of a word of players.
@@ -41,4 +41,18 @@ pub fn without_bits(word: u64, other: u64) -> u64
     ensures { (bit : ℕ) → bit < word_bits → has_bit result bit ≡ (has_bit word bit && not (has_bit other bit)) }
 {
     word & !other
+}
+
+/// How many bits from this one on are set: up to the first that isn't.
+pub fn ones_from(word: u64, bit: u32) -> u32
+    requires { bit < word_bits }
+    ensures within { bit + result ≤ word_bits }
+    ensures ones { (other : ℕ) → bit ≤ other → other < bit + result → has_bit word other ≡ true }
+    ensures end { bit + result < word_bits → has_bit word (bit + result) ≡ false }
+{
+    let rest = word >> bit;
+    if rest == u64::MAX {
+        return WORD_BITS;
+    }
+    rest.trailing_ones()
 }

@@ -1,9 +1,8 @@
 -- A player that sleeps has no possible attempt, and who sleeps is known behind each turn.
-use Rattle.std.proofs.Common.{◌≡◌, ◌≢◌, ◌⊎◌, inl, inr, ℕ, zero, suc, ◌-◌, ◌<◌, true, false, Option, Some, None, is_some, List, [], ◌∷◌, ◌++◌, length, map, get_or, set, slice_get, option_and_then, All, refl, sym, ap, subst, ◌∙◌, arith}
+use Rattle.std.proofs.Common.{◌≡◌, ◌≢◌, ◌⊎◌, inl, inr, ℕ, zero, suc, ◌+◌, ◌-◌, ◌<◌, ◌≤◌, Bool, true, false, cond, Option, Some, None, is_some, List, [], ◌∷◌, ◌++◌, length, map, get_or, set, slice_get, option_and_then, All, refl, sym, ap, subst, ◌∙◌, arith}
 use Rattle.std.proofs.lemmas.List.{length_push}
 use Rattle.std.proofs.lemmas.List.Elements.{All-nil, All-cons, All-head, All-tail}
 use Rattle.zk_base.specs.declared.ids.Who.{Who}
-use Rattle.zk_player_set.specs.Players.{has}
 use Rattle.zk_scenario.specs.Content.{Content}
 use Rattle.zk_worker.specs.declared.steps.Spot.{Spot}
 use Rattle.zk_worker.specs.declared.steps.Step.{Step}
@@ -18,17 +17,17 @@ use Rattle.zk_worker.specs.Shown.{Shown, shown_after}
 use Rattle.zk_worker.proofs.CheckedSteps.{after-spots}
 use Rattle.zk_worker.proofs.Lists.{slice_get-set, set-there, there-behind, none-passes}
 use Rattle.zk_world.specs.Ready.{IsReady}
-use Rattle.zk_world.specs.World.{world, is_spent}
+use Rattle.zk_world.specs.World.{World, world, stepped, is_spent}
 use Rattle.zk_services.specs.Counted.{service_of}
 use Rattle.zk_replay.specs.declared.last_turn.Asked.{Asked}
 use Rattle.zk_replay.specs.declared.last_turn.LastTurn.{LastTurn}
 use Rattle.zk_replay.specs.declared.sleepers.Sleepers.{Sleepers}
-use Rattle.zk_replay.specs.declared.turns.Turn.{Turn}
 use Rattle.zk_replay.specs.LastTurns.{asked_at, IsKept}
-use Rattle.zk_replay.specs.Sleeping.{list_of, entered_at, last_entered, asks_at, Sleeps, AreAsleep, AreListed, FellAsleep, SleepOn}
-use Rattle.zk_replay.specs.Turning.{shown_with, at_after, IsTurn, Turned}
+use Rattle.zk_replay.specs.Sleeping.{is_asleep, list_of, entered_at, last_entered, asks_at, Sleeps, AreAsleep, AreListed, FellAsleep, SleepOn}
+use Rattle.zk_replay.specs.RoundRobin.{turn, turn_of, turns}
+use Rattle.zk_replay.specs.Turning.{shown_with, at_after, IsTurn, WithinRound}
 use Rattle.zk_replay.proofs.InVain.{none_first, none_or}
-use Rattle.zk_replay.proofs.Rounds.{turned-from}
+use Rattle.zk_replay.proofs.Rounds.{within-left}
 use Rattle.zk_replay.proofs.Told.{told}
 
 -- Whether any of some attempts is possible.
@@ -51,27 +50,57 @@ module _ (m : Machines) (shown : Shown) (who : Who) where
 
 -- a player that sleeps has no possible attempt
 asleep-none : (m : Machines) (s : Content) (shown : Shown) (players : List PlayerPlace) (sleepers : Sleepers) (p : ℕ) (at : PlayerPlace) → AreAsleep m s (world shown players) sleepers →
-    has sleepers.asleep p ≡ true → slice_get players p ≡ Some at → chosen m s shown at ≡ None
+    is_asleep sleepers p ≡ true → slice_get players p ≡ Some at → chosen m s shown at ≡ None
 asleep-none m s shown players sleepers p at were sleeps there =
     let it = were p at there sleeps in
     none-all m shown at.who (attempts s at) it.none
 
-there-is : {A : Type 0} (xs : List A) (p : ℕ) → p < length xs → slice_get xs p ≡ None → ⊥
-there-is [] p below none = omega arith
-there-is (x ∷ xs) zero below none = absurd (cc)
-there-is (x ∷ xs) (suc p) below none = there-is xs p (omega arith) none
-
 -- so its turn leaves all as it is
-pub asleep-turned : (s : Content) (shown : Shown) (players : List PlayerPlace) (sleepers : Sleepers) (p : ℕ) (turn : Turn) → AreAsleep (machines_of s) s (world shown players) sleepers →
-    has sleepers.asleep p ≡ true → IsReady s (world shown players) → is_spent s (world shown players) ≡ false → p < length players →
-    turn.moved ≡ false → turn.spent ≡ false → Turned (machines_of s) s (world shown players) (world shown players) p turn
-asleep-turned s shown players sleepers p turn were sleeps ready unspent below still left = by (slice_get players p) refl where
-  by : (o : Option PlayerPlace) → slice_get players p ≡ o → Turned (machines_of s) s (world shown players) (world shown players) p turn
-  by None none = absurd (there-is players p below none)
-  by (Some at) there =
-      turned-from (machines_of s) s shown shown players players p at at turn None refl ready unspent there
-      (asleep-none (machines_of s) s shown players sleepers p at were sleeps there) refl refl (sym (set-there players p at there)) still
-      (left ∙ sym (none-passes (is_spent_at s) players p at unspent there))
+asleep-turn : (s : Content) (shown : Shown) (players : List PlayerPlace) (sleepers : Sleepers) (p : ℕ) → AreAsleep (machines_of s) s (world shown players) sleepers →
+    is_spent s (world shown players) ≡ false → is_asleep sleepers p ≡ true → turn (machines_of s) s (world shown players) p ≡ world shown players
+asleep-turn s shown players sleepers p were unspent sleeps =
+    ap (λ (b : Bool). cond b w (turn_of m s w p (slice_get players p))) unspent ∙ by (slice_get players p) refl
+  where
+    m : Machines
+    m = machines_of s
+
+    w : World
+    w = world shown players
+
+    by : (o : Option PlayerPlace) → slice_get players p ≡ o → turn_of m s w p (slice_get players p) ≡ w
+    by None none = ap (turn_of m s w p) none
+    by (Some at) there = ap (turn_of m s w p) there ∙ ap (stepped s w p at) (asleep-none m s shown players sleepers p at were sleeps there)
+
+-- and so do the turns of several
+pub within-asleep : (s : Content) (old : World) (shown : Shown) (players : List PlayerPlace) (sleepers : Sleepers) (moved : Bool) (n k p : ℕ) →
+    AreAsleep (machines_of s) s (world shown players) sleepers → ((q : ℕ) → p ≤ q → q < p + k → is_asleep sleepers q ≡ true) →
+    WithinRound (machines_of s) s old (world shown players) moved n p → WithinRound (machines_of s) s old (world shown players) moved (n - k) (p + k)
+within-asleep s old shown players sleepers moved n zero p were asleep within =
+    let m = machines_of s in
+    let now = world shown players in
+    let place : p ≡ p + 0 = omega arith in
+    subst (WithinRound m s old now moved (n - 0)) place (within-left m s old now moved n (n - 0) p (omega arith) within)
+within-asleep s old shown players sleepers moved zero (suc k) p were asleep within =
+    let m = machines_of s in
+    let now = world shown players in
+    let none : WithinRound m s old now moved 0 (p + suc k) =
+    record { rest = within.rest; ready = within.ready; unspent = within.unspent; less = within.less; still = within.still } in
+    within-left m s old now moved 0 (0 - suc k) (p + suc k) (omega arith) none
+within-asleep s old shown players sleepers moved (suc n) (suc k) p were asleep within =
+    let m = machines_of s in
+    let now = world shown players in
+    let here : turn m s now p ≡ now = asleep-turn s shown players sleepers p were within.unspent (asleep p (omega arith) (omega arith)) in
+    let next : WithinRound m s old now moved n (p + 1) = record {
+      rest = ap (λ (w : World). turns m s w n (p + 1)) (sym here) ∙ within.rest;
+      ready = within.ready;
+      unspent = within.unspent;
+      less = within.less;
+      still = within.still;
+    } in
+    let place : p + 1 + k ≡ p + suc k = omega arith in
+    within-left m s old now moved (n - k) (suc n - suc k) (p + suc k) (omega arith)
+    (subst (WithinRound m s old now moved (n - k)) place
+    (within-asleep s old shown players sleepers moved n k (p + 1) were (λ q low high. asleep q (omega arith) (omega arith)) next))
 
 -- the last spot of a log is that of the last step
 last-pushed : (log : List Spot) (spot : Spot) → last_entered (log ++ spot ∷ []) ≡ entered_at spot
@@ -102,14 +131,14 @@ module _ (m : Machines) (s : Content) (old new : Shown) (players players' : List
   there_of p other is = slice_get-set players number p at' other (ap (λ (ps : List PlayerPlace). slice_get ps p) (sym written) ∙ is)
 
   -- who sleeps behind a step
-  pub asleep-moved : has sleepers.asleep number ≡ false → IsTurn m s at at' old new true → SleepOn (last_entered at'.spots) sleepers sleepers' →
+  pub asleep-moved : is_asleep sleepers number ≡ false → IsTurn m s at at' old new true → SleepOn (last_entered at'.spots) sleepers sleepers' →
       AreAsleep m s (world new players') sleepers'
   asleep-moved awake turn slept = by_made (chosen m s old at) refl
     where
-      one : (made : Step × StepReply) → chosen m s old at ≡ Some made → (p : ℕ) (other : PlayerPlace) → has sleepers'.asleep p ≡ true →
+      one : (made : Step × StepReply) → chosen m s old at ≡ Some made → (p : ℕ) (other : PlayerPlace) → is_asleep sleepers' p ≡ true →
           ((p ≡ number) × (other ≡ at')) ⊎ ((p ≢ number) × (slice_get players p ≡ Some other)) → Sleeps m s new other sleepers'.lists.items p
       one made choice p other sleeps (inl mine) =
-          absurd (let no : false ≡ true = sym awake ∙ ap (has sleepers.asleep) (sym mine.0) ∙ (slept p sleeps).slept in cc)
+          absurd (let no : false ≡ true = sym awake ∙ ap (is_asleep sleepers) (sym mine.0) ∙ (slept p sleeps).slept in cc)
       one made choice p other sleeps (inr before) =
           let has = slept p sleeps in
           let was = were p other before.1 has.slept in
@@ -141,7 +170,7 @@ module _ (m : Machines) (s : Content) (old new : Shown) (players players' : List
       same : new ≡ old
       same = turn.shows ∙ ap (shown_with old at.who (length at.spots)) none
 
-      own : has sleepers'.asleep number ≡ true → Sleeps m s new at' sleepers'.lists.items number
+      own : is_asleep sleepers' number ≡ true → Sleeps m s new at' sleepers'.lists.items number
       own sleeps =
           let since = is_kept (fell.waits sleeps) in
           let vain : chosen m s new at' ≡ None = ap (λ (h : Shown). chosen m s h at') same ∙ ap (chosen m s old) here ∙ none in
@@ -151,12 +180,12 @@ module _ (m : Machines) (s : Content) (old new : Shown) (players players' : List
                 (subst (λ (l : List Asked). AreListed sleepers'.lists.items l number) since.asks (fell.listed sleeps));
           }
 
-      by : (p : ℕ) (other : PlayerPlace) → has sleepers'.asleep p ≡ true → ((p ≡ number) × (other ≡ at')) ⊎ ((p ≢ number) × (slice_get players p ≡ Some other)) →
+      by : (p : ℕ) (other : PlayerPlace) → is_asleep sleepers' p ≡ true → ((p ≡ number) × (other ≡ at')) ⊎ ((p ≢ number) × (slice_get players p ≡ Some other)) →
           Sleeps m s new other sleepers'.lists.items p
       by p other sleeps (inl mine) =
           subst (λ (x : PlayerPlace). Sleeps m s new x sleepers'.lists.items p) (sym mine.1)
           (subst (λ (q : ℕ). Sleeps m s new at' sleepers'.lists.items q) (sym mine.0)
-          (own (ap (has sleepers'.asleep) (sym mine.0) ∙ sleeps)))
+          (own (ap (is_asleep sleepers') (sym mine.0) ∙ sleeps)))
       by p other sleeps (inr apart) =
           let was = were p other apart.1 (fell.others p apart.0 sleeps) in
           record {

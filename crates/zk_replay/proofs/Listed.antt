@@ -11,7 +11,7 @@ use Rattle.zk_player_set.specs.Players.{has}
 use Rattle.zk_services.specs.declared.counted.ServiceId.{ServiceId}
 use Rattle.zk_replay.specs.declared.sleepers.Sleepers.{Sleepers}
 use Rattle.zk_replay.specs.declared.last_turn.LastTurn.{LastTurn}
-use Rattle.zk_replay.specs.Sleeping.{list_of, listed_at, AreListed, StandStill, FellAsleep, SleepOn}
+use Rattle.zk_replay.specs.Sleeping.{is_asleep, list_of, listed_at, AreListed, StandStill, FellAsleep, SleepOn}
 
 -- a player is put into a set
 module _ (old new : PlayerSet) (player : ℕ)
@@ -52,29 +52,39 @@ pub listed-is : (lists : List PlayerSet) (list : ℕ) (o : Option PlayerSet) (p 
     listed_at lists list p ≡ option_map_or (λ (players : PlayerSet). has players p) o false
 listed-is lists list o p is = ap (λ (x : Option PlayerSet). option_map_or (λ (players : PlayerSet). has players p) x false) is
 
+-- who sleeps, by the set
+pub asleep-is : (sleepers : Sleepers) (o : Option PlayerSet) (p : ℕ) → sleepers.asleep ≡ o →
+    is_asleep sleepers p ≡ option_map_or (λ (players : PlayerSet). has players p) o false
+asleep-is sleepers o p is = ap (λ (x : Option PlayerSet). option_map_or (λ (players : PlayerSet). has players p) x false) is
+
 not-so : (b : Bool) → not b ≡ true → b ≡ false
 not-so true is = absurd (cc)
 not-so false is = refl
 
 -- the list of a service is woken and emptied
-pub slept-list : (old new : Sleepers) (service : ServiceId) (list kept : PlayerSet) →
+pub slept-list : (old new : Sleepers) (asleep left : PlayerSet) (service : ServiceId) (list kept : PlayerSet) →
+    old.asleep ≡ Some asleep → new.asleep ≡ Some left →
     slice_get old.lists.items (list_of service) ≡ Some list → new.lists.items ≡ set old.lists.items (list_of service) kept →
-    ((p : ℕ) → has new.asleep p ≡ (has old.asleep p && not (has list p))) → SleepOn (Some service) old new
-slept-list old new service list kept there written woken = λ p sleeps.
-    let both = sym (woken p) ∙ sleeps in
-    let isnt = not-so (has list p) (second_so (has old.asleep p) (not (has list p)) both) in
+    ((p : ℕ) → has left p ≡ (has asleep p && not (has list p))) → SleepOn (Some service) old new
+slept-list old new asleep left service list kept were are there written woken = λ p sleeps.
+    let both = sym (woken p) ∙ sym (asleep-is new (Some left) p are) ∙ sleeps in
+    let isnt = not-so (has list p) (second_so (has asleep p) (not (has list p)) both) in
     record {
-      slept = first_so (has old.asleep p) (not (has list p)) both;
+      slept = asleep-is old (Some asleep) p were ∙ first_so (has asleep p) (not (has list p)) both;
       stands = λ k stood. ap (λ (ls : List PlayerSet). listed_at ls k p) written
           ∙ listed-set old.lists.items (list_of service) list kept k p there (λ among. absurd (cc (among, isnt))) stood;
       apart = λ other same. ap (λ (x : ServiceId). listed_at old.lists.items (list_of x) p) (sym (same_Some service other same))
           ∙ listed-is old.lists.items (list_of service) (Some list) p there ∙ isnt;
     }
 
+-- nobody sleeps
+pub slept-none : (entered : Option ServiceId) (old : Sleepers) → old.asleep ≡ None → SleepOn entered old old
+slept-none entered old none = λ p sleeps. absurd (cc (sym (asleep-is old None p none) ∙ sleeps))
+
 -- there is no such list
-pub slept-none : (old : Sleepers) (service : ServiceId) → slice_get old.lists.items (list_of service) ≡ None →
+pub slept-outside : (old : Sleepers) (service : ServiceId) → slice_get old.lists.items (list_of service) ≡ None →
     SleepOn (Some service) old old
-slept-none old service none = λ p sleeps. record {
+slept-outside old service none = λ p sleeps. record {
   slept = sleeps;
   stands = λ k stood. stood;
   apart = λ other same. ap (λ (x : ServiceId). listed_at old.lists.items (list_of x) p) (sym (same_Some service other same))
@@ -86,23 +96,25 @@ pub slept-look : (old : Sleepers) → SleepOn None old old
 slept-look old = λ p sleeps. record { slept = sleeps; stands = λ k stood. stood; apart = λ other same. absurd (cc) }
 
 -- who doesn't fall asleep
-pub fell-not : (kept : LastTurn) (number : ℕ) (old new : Sleepers) → has old.asleep number ≡ false → new.asleep ≡ old.asleep →
+pub fell-not : (kept : LastTurn) (number : ℕ) (old new : Sleepers) → is_asleep old number ≡ false → new.asleep ≡ old.asleep →
     StandStill old.lists.items new.lists.items → FellAsleep kept number old new
 fell-not kept number old new awake same stand = record {
-  waits = λ sleeps. absurd (cc (awake, ap (λ (x : PlayerSet). has x number) same, sleeps));
-  listed = λ sleeps. absurd (cc (awake, ap (λ (x : PlayerSet). has x number) same, sleeps));
-  others = λ p differ sleeps. sym (ap (λ (x : PlayerSet). has x p) same) ∙ sleeps;
+  waits = λ sleeps. absurd (cc (awake, asleep-is new old.asleep number same, sleeps));
+  listed = λ sleeps. absurd (cc (awake, asleep-is new old.asleep number same, sleeps));
+  others = λ p differ sleeps. sym (asleep-is new old.asleep p same) ∙ sleeps;
   stand = stand;
 }
 
 -- who does
-pub fell : (kept : LastTurn) (number : ℕ) (old new : Sleepers) →
-    ((other : ℕ) → has new.asleep other ≡ (has old.asleep other || (eqb number other && ltb number most_players))) →
+pub fell : (kept : LastTurn) (number : ℕ) (old new : Sleepers) (were are : PlayerSet) →
+    ((other : ℕ) → has were other ≡ is_asleep old other) → new.asleep ≡ Some are →
+    ((other : ℕ) → has are other ≡ (has were other || (eqb number other && ltb number most_players))) →
     kept.waits ≡ true → AreListed new.lists.items kept.asked.items number → StandStill old.lists.items new.lists.items →
     FellAsleep kept number old new
-fell kept number old new put waits listed stand = record {
+fell kept number old new were are before written put waits listed stand = record {
   waits = λ sleeps. waits;
   listed = λ sleeps. listed;
-  others = λ p differ sleeps. put-alone old.asleep new.asleep number put p differ sleeps;
+  others = λ p differ sleeps.
+      sym (before p) ∙ put-alone were are number put p differ (sym (asleep-is new (Some are) p written) ∙ sleeps);
   stand = stand;
 }

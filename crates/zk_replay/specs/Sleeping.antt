@@ -48,6 +48,10 @@ entered_at (spots.LookSignal object seen) = None
 abbrev pub last_entered : List Spot → Option ServiceId
 last_entered log = option_and_then entered_at (slice_get log (length log - 1))
 
+-- a player is said to sleep: where nobody is, there is no set
+abbrev pub is_asleep : Sleepers → ℕ → Bool
+is_asleep sleepers player = option_map_or (λ players. has players player) sleepers.asleep false
+
 -- a player stands in the list of this number
 abbrev pub listed_at : List PlayerSet → ℕ → ℕ → Bool
 listed_at lists list player = option_map_or (λ players. has players player) (slice_get lists list) false
@@ -65,7 +69,7 @@ pub record Sleeps (m : Machines) (s : Content) (shown : Shown) (at : PlayerPlace
 -- each player that is said to sleep does
 abbrev pub AreAsleep : Machines → Content → World → Sleepers → Type 0
 AreAsleep m s w sleepers =
-    (p : ℕ) (at : PlayerPlace) → slice_get w.players p ≡ Some at → has sleepers.asleep p ≡ true →
+    (p : ℕ) (at : PlayerPlace) → slice_get w.players p ≡ Some at → is_asleep sleepers p ≡ true →
     Sleeps m s w.shown at sleepers.lists.items p
 
 -- a player stands in the lists of the services that it asked
@@ -78,17 +82,17 @@ StandStill old new = (list p : ℕ) → listed_at old list p ≡ true → listed
 
 -- a player whose last turn was in vain sleeps, if it stands in the lists of the services that it asked
 pub record FellAsleep (kept : LastTurn) (number : ℕ) (old new : Sleepers) : Type 0 where
-  pub waits : has new.asleep number ≡ true → kept.waits ≡ true
-  pub listed : has new.asleep number ≡ true → AreListed new.lists.items kept.asked.items number
-  pub others : (p : ℕ) → p ≢ number → has new.asleep p ≡ true → has old.asleep p ≡ true
+  pub waits : is_asleep new number ≡ true → kept.waits ≡ true
+  pub listed : is_asleep new number ≡ true → AreListed new.lists.items kept.asked.items number
+  pub others : (p : ℕ) → p ≢ number → is_asleep new p ≡ true → is_asleep old p ≡ true
   pub stand : StandStill old.lists.items new.lists.items
 
 -- a player that sleeps slept before, and stands in each list still: not in that of a further entry
 pub record SleepsOn (entered : Option ServiceId) (old new : Sleepers) (p : ℕ) : Type 0 where
-  pub slept : has old.asleep p ≡ true
+  pub slept : is_asleep old p ≡ true
   pub stands : (list : ℕ) → listed_at old.lists.items list p ≡ true → listed_at new.lists.items list p ≡ true
   pub apart : (service : ServiceId) → entered ≡ Some service → listed_at old.lists.items (list_of service) p ≡ false
 
 -- the same of all who sleep
 abbrev pub SleepOn : Option ServiceId → Sleepers → Sleepers → Type 0
-SleepOn entered old new = (p : ℕ) → has new.asleep p ≡ true → SleepsOn entered old new p
+SleepOn entered old new = (p : ℕ) → is_asleep new p ≡ true → SleepsOn entered old new p

@@ -1,7 +1,6 @@
-ghost use Rattle.std.specs.Prelude.{◌≡◌, ℕ, ◌<◌, true, false, IfOk};
+ghost use Rattle.std.specs.Prelude.{◌≡◌, ℕ, ◌+◌, ◌<◌, ◌≤◌, true, false, IfOk};
 ghost use Rattle.zk_base.specs.Limits.{most_players};
-ghost use Rattle.zk_player_set.specs.Players.{has};
-ghost use Rattle.zk_replay.specs.Sleeping.{list_of, listed_at, entered_at, last_entered, AreListed, StandStill, FellAsleep, SleepOn};
+ghost use Rattle.zk_replay.specs.Sleeping.{is_asleep, list_of, listed_at, entered_at, last_entered, AreListed, StandStill, FellAsleep, SleepOn};
 
 use crate::last_turn::{Asked, LastTurn};
 use std::alloc::Global;
@@ -14,9 +13,9 @@ use zk_worker::{Player, Spot};
 /// Who sleeps, and who is woken by an entry of which service.
 #[derive(Drop)]
 pub struct Sleepers {
-    /// Who sleeps: none of the steps that such a player may make next is possible, and that stays so as long as none of the
-    /// services that it asked has a further entry.
-    pub asleep: PlayerSet,
+    /// Who sleeps, once somebody has: none of the steps that such a player may make next is possible, and that stays so as long
+    /// as none of the services that it asked has a further entry.
+    pub asleep: Option<PlayerSet>,
     /// For each service those who sleep and asked it, by the number of its list. Others may be among them.
     pub lists: Vec<PlayerSet>,
 }
@@ -70,20 +69,28 @@ fn last_entered(player: &Player) -> Option<ServiceId>
 
 /// All players are awake, and there is a list for each service of the scenario.
 pub fn no_sleepers(alloc: Global, scenario: &Scenario) -> Result<Sleepers, NoMemory>
-    ensures { IfOk result (λ sleepers. (player : ℕ) → has sleepers.asleep player ≡ false) }
+    ensures { IfOk result (λ sleepers. (player : ℕ) → is_asleep sleepers player ≡ false) }
 {
     Ok(Sleepers {
-        asleep: PlayerSet::none(),
+        asleep: None,
         lists: vec![in alloc; PlayerSet::none(); scenario.decls().len() + 3]?,
     })
 }
 
-/// Whether the player of this number sleeps.
+/// How many players sleep that follow each other, from this one on: none where this one is awake.
 #[inline(always)]
-pub fn is_asleep(sleepers: &Sleepers, number: usize) -> bool
-    ensures { result ≡ has sleepers.now.asleep number }
+pub fn asleep_from(sleepers: &Sleepers, number: usize) -> usize
+    ensures all { (player : ℕ) → number ≤ player → player < number + result → is_asleep sleepers.now player ≡ true }
+    ensures none { result ≡ 0 → is_asleep sleepers.now number ≡ false }
+    ensures few { result ≤ most_players }
 {
-    number < MOST_PLAYERS as usize && sleepers.asleep.contains(number as u32)
+    let Some(asleep) = &sleepers.asleep else {
+        return 0;
+    };
+    if number >= MOST_PLAYERS as usize {
+        return 0;
+    }
+    asleep.consecutive_from(number as u32) as usize
 }
 
 /// Puts a player into a list, if there is such a list.
@@ -115,7 +122,7 @@ fn join_all(lists: &mut Vec<PlayerSet>, asked: &[Asked], player: u32) -> bool
 
 /// Lets a player sleep whose last turn was in vain.
 pub fn fall_asleep(kept: &LastTurn, number: usize, sleepers: &mut Sleepers)
-    requires { has sleepers.old.asleep number ≡ false }
+    requires { is_asleep sleepers.old number ≡ false }
     ensures { FellAsleep kept.now number sleepers.old sleepers.new }
 {
     if !kept.waits || number >= MOST_PLAYERS as usize {
@@ -123,7 +130,9 @@ pub fn fall_asleep(kept: &LastTurn, number: usize, sleepers: &mut Sleepers)
     }
     let player = number as u32;
     if join_all(&mut sleepers.lists, &kept.asked, player) {
-        sleepers.asleep.insert(player);
+        let mut asleep = sleepers.asleep.unwrap_or(PlayerSet::none());
+        asleep.insert(player);
+        sleepers.asleep = Some(asleep);
     }
 }
 
@@ -132,6 +141,9 @@ pub fn fall_asleep(kept: &LastTurn, number: usize, sleepers: &mut Sleepers)
 pub fn wake(player: &Player, sleepers: &mut Sleepers)
     ensures { SleepOn (last_entered player.now.spots) sleepers.old sleepers.new }
 {
+    let Some(asleep) = sleepers.asleep else {
+        return;
+    };
     let Some(service) = last_entered(player) else {
         return;
     };
@@ -139,6 +151,6 @@ pub fn wake(player: &Player, sleepers: &mut Sleepers)
     if list >= sleepers.lists.len() {
         return;
     }
-    sleepers.asleep = sleepers.asleep.without(&sleepers.lists[list]);
+    sleepers.asleep = Some(asleep.without(&sleepers.lists[list]));
     sleepers.lists[list] = PlayerSet::none();
 }

@@ -11,11 +11,10 @@ ghost use Rattle.zk_world.specs.World.{world, is_spent};
 ghost use Rattle.zk_replay.specs.RoundRobin.{turn, round, rounds};
 ghost use Rattle.zk_replay.specs.Turning.{made_step, IsAlone, IsTurn, Turned, Rounded};
 ghost use Rattle.zk_replay.specs.LastTurns.{IsKept, AreKept};
-ghost use Rattle.zk_replay.specs.Sleeping.{AreAsleep};
-ghost use Rattle.zk_player_set.specs.Players.{has};
+ghost use Rattle.zk_replay.specs.Sleeping.{is_asleep, AreAsleep};
 
 use crate::last_turn::{LastTurn, is_in_vain, keep, no_turns};
-use crate::sleepers::{Sleepers, fall_asleep, is_asleep, no_sleepers, wake};
+use crate::sleepers::{Sleepers, asleep_from, fall_asleep, no_sleepers, wake};
 use std::alloc::Global;
 use zk_base::NoMemory;
 use zk_scenario::Scenario;
@@ -129,7 +128,7 @@ fn take_turn<V: Counted>(
         (world (V.shown services.old) players.old.items) waiting.old.items }
     requires asleep { AreAsleep (machines_of scenario.now) scenario.now
         (world (V.shown services.old) players.old.items) sleepers.old }
-    requires awake { has sleepers.old.asleep number ≡ false }
+    requires awake { is_asleep sleepers.old number ≡ false }
     requires places { vec_len waiting.old ≡ vec_len players.old }
     requires number { number < vec_len players.old }
     ensures turned { IfOk result (λ turn.
@@ -155,49 +154,8 @@ fn take_turn<V: Counted>(
     Ok(turn)
 }
 
-/// A turn of the player of this number. Where it sleeps it isn't asked.
-// In line: most of the time most players sleep.
-#[inline(always)]
-fn turn_of<V: Counted>(
-    services: &mut V,
-    scenario: &Scenario,
-    players: &mut Vec<Player>,
-    waiting: &mut Vec<LastTurn>,
-    sleepers: &mut Sleepers,
-    number: usize,
-) -> Result<Turn, NoMemory>
-    requires valid { IsValid scenario.now }
-    requires alone { IsAlone scenario.now (V.alone services.old) (V.machines services.old) (V.serves services.old) }
-    requires ready { IsReady scenario.now (world (V.shown services.old) players.old.items) }
-    requires unspent { is_spent scenario.now (world (V.shown services.old) players.old.items) ≡ false }
-    requires kept { AreKept (machines_of scenario.now) scenario.now
-        (world (V.shown services.old) players.old.items) waiting.old.items }
-    requires asleep { AreAsleep (machines_of scenario.now) scenario.now
-        (world (V.shown services.old) players.old.items) sleepers.old }
-    requires places { vec_len waiting.old ≡ vec_len players.old }
-    requires number { number < vec_len players.old }
-    ensures turned { IfOk result (λ turn.
-        Turned (machines_of scenario.now) scenario.now
-        (world (V.shown services.old) players.old.items)
-        (world (V.shown services.new) players.new.items) number turn) }
-    ensures kept { IfOk result (λ turn. AreKept (machines_of scenario.now) scenario.now
-        (world (V.shown services.new) players.new.items) waiting.new.items) }
-    ensures asleep { IfOk result (λ turn. AreAsleep (machines_of scenario.now) scenario.now
-        (world (V.shown services.new) players.new.items) sleepers.new) }
-    ensures alone { IsAlone scenario.now (V.alone services.new) (V.machines services.new) (V.serves services.new) }
-    ensures players { vec_len players.new ≡ vec_len players.old }
-    ensures places { vec_len waiting.new ≡ vec_len waiting.old }
-{
-    if is_asleep(sleepers, number) {
-        return Ok(Turn {
-            moved: false,
-            spent: false,
-        });
-    }
-    take_turn(services, scenario, players, waiting, sleepers, number)
-}
-
-/// A turn of each player in order, but not beyond one that is spent by its turn.
+/// A turn of each player in order, but not beyond one that is spent by its turn. Who sleeps isn't asked: most of the time most
+/// do.
 fn play_round<V: Counted>(
     services: &mut V,
     scenario: &Scenario,
@@ -226,12 +184,19 @@ fn play_round<V: Counted>(
     ensures alone { IsAlone scenario.now (V.alone services.new) (V.machines services.new) (V.serves services.new) }
 {
     let mut moved = false;
-    for number in 0..players.len() {
-        let turn = turn_of(services, scenario, players, waiting, sleepers, number)?;
-        if turn.spent {
-            return Ok(RoundEnd::Spent);
+    let mut number = 0;
+    while number < players.len() {
+        let asleep = asleep_from(sleepers, number);
+        if asleep > 0 {
+            number += asleep;
+        } else {
+            let turn = take_turn(services, scenario, players, waiting, sleepers, number)?;
+            if turn.spent {
+                return Ok(RoundEnd::Spent);
+            }
+            moved |= turn.moved;
+            number += 1;
         }
-        moved |= turn.moved;
     }
     Ok(if moved {
         RoundEnd::Goes

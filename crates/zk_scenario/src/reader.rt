@@ -19,6 +19,7 @@ use crate::refused::Why;
 use crate::scripts::Scripts;
 use crate::types::Script;
 use std::alloc::Global;
+use std::array;
 use std::marker::Model;
 use zk_base::{Listed, MOST_PLAYERS, NoMemory, make_room_for_one, push_within};
 use zk_line::{
@@ -532,7 +533,7 @@ fn push_call(current: &mut Option<Script>, call: &Call) -> Result<(), NoMemory>
 {
     let _known: Option<Ref> = None;
     match current {
-        Some(script) => script.calls.push_copy(call),
+        Some(script) => script.calls.extend_from_slice(array::from_ref(call)),
         None => Ok(()),
     }
 }

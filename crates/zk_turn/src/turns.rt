@@ -29,8 +29,8 @@ pub(crate) const COUNT: usize = 2;
 
 pub(crate) const FIRST_WORD: usize = 3;
 
-// How often a caller looks whether its ticket is served before it sleeps: for longer than it takes to wake a thread,
-// since else all sleep once one does.
+// How often a caller looks whether its ticket is served, or the history has grown, before it sleeps: for longer than it
+// takes to wake a thread, since else all sleep once one does.
 const LOOKS: u32 = 1_000;
 
 impl<S: Service> Cell<S> {
@@ -158,6 +158,24 @@ impl<S: Service> Cell<S> {
     /// It is a hint: more may have come by the time that it answers, and the turn of a new entry may not be over yet.
     pub fn has_grown(&self, pass: &Pass<S>) -> bool {
         self.table.shared.peek(COUNT) != pass.front
+    }
+
+    /// Waits until the history has more entries than the pass has seen, or a turn has ended: looks some times as
+    /// `has_grown` does, and then sleeps until the next ticket is served.
+    ///
+    /// It takes no room of the pass and no turn, and it may return where nothing is new. No entry that comes meanwhile is
+    /// missed: the ticket served is read before the last look, and whoever adds an entry serves the next ticket afterwards.
+    pub fn await_news<R: Wait>(&self, rt: &R, pass: &Pass<S>) {
+        for _ in 0..LOOKS {
+            if self.has_grown(pass) {
+                return;
+            }
+            hint::spin_loop();
+        }
+        let served = self.table.shared.peek(SERVING);
+        if !self.has_grown(pass) {
+            self.sleep(rt, served);
+        }
     }
 
     // Serves the next ticket, and wakes all who sleep, if somebody does.

@@ -1,8 +1,29 @@
-use Rattle.std.proofs.Common.{◌+◌, ◌-◌, ◌∙◌, suc, sym, arith}
+use Rattle.std.proofs.Common.{◌+◌, ◌-◌, ◌∙◌, suc, sym, vec_len, arith}
 use Rattle.zk_worker.specs.Machines.{machines_of}
 use Rattle.zk_world.specs.World.{world}
+use Rattle.zk_replay.proofs.Asleep.{within-asleep}
 use Rattle.zk_replay.proofs.Rounds.{within-left, within-spent, within-next}
 use Rattle.zk_replay.proofs.turns.play_round.Goals as goal
+
+pub loop-number-preserved-then-asleep-gt0 : goal.loop-number-preserved-then-asleep-gt0
+loop-number-preserved-then-asleep-gt0 g c =
+    let s = c.args.scenario.now in
+    let m = machines_of s in
+    let p = c.loop-number.number in
+    let k = c.asleep_from-asleep.result in
+    let old = world (g.V.Services.shown c.args.services.now) c.args.players.now.items in
+    let shown = g.V.Services.shown c.loop-number.services in
+    let players = c.loop-number.players in
+    let n = vec_len players - p in
+    record {
+      alone = c.loop-number.invariant.alone;
+      places = c.loop-number.invariant.places;
+      kept = c.loop-number.invariant.kept;
+      asleep = c.loop-number.invariant.asleep;
+      within = within-left m s old (world shown players.items) c.loop-number.moved (n - k) (vec_len players - (p + k)) (p + k) (omega arith)
+          (within-asleep s old shown players.items c.loop-number.sleepers c.loop-number.moved n k p c.loop-number.invariant.asleep
+          c.asleep_from-asleep.ensures.all c.loop-number.invariant.within);
+    }
 
 pub returns-then-turn-clause-rounded : goal.returns-then-turn-clause-rounded
 returns-then-turn-clause-rounded g c =
@@ -11,10 +32,10 @@ returns-then-turn-clause-rounded g c =
     let p = c.loop-number.number in
     let old = world (g.V.Services.shown c.args.services.now) c.args.players.now.items in
     let now = world (g.V.Services.shown c.loop-number.services) c.loop-number.players.items in
-    let new = world (g.V.Services.shown c.turn_of.new.services) c.turn_of.new.players.items in
-    let n = c.len-number-end.result - (p + 1) in
+    let new = world (g.V.Services.shown c.take_turn.new.services) c.take_turn.new.players.items in
+    let n = vec_len c.loop-number.players - (p + 1) in
     within-spent m s old now new c.loop-number.moved n p c.in_ok-turn.turn
-    (within-left m s old now c.loop-number.moved (c.len-number-end.result - p) (suc n) p (omega arith) c.loop-number.invariant.within)
+    (within-left m s old now c.loop-number.moved (vec_len c.loop-number.players - p) (suc n) p (omega (arith, c.loop-number-test.true, c.len.ensures)) c.loop-number.invariant.within)
     c.in_ok-turn.ensures.turned
     c.if-turn.true
 
@@ -25,16 +46,16 @@ loop-number-preserved g c =
     let p = c.loop-number.number in
     let old = world (g.V.Services.shown c.args.services.now) c.args.players.now.items in
     let now = world (g.V.Services.shown c.loop-number.services) c.loop-number.players.items in
-    let new = world (g.V.Services.shown c.turn_of.new.services) c.turn_of.new.players.items in
-    let n = c.len-number-end.result - (p + 1) in
+    let new = world (g.V.Services.shown c.take_turn.new.services) c.take_turn.new.players.items in
+    let n = vec_len c.loop-number.players - (p + 1) in
+    let next = within-next m s old now new c.loop-number.moved n p c.in_ok-turn.turn
+    (within-left m s old now c.loop-number.moved (vec_len c.loop-number.players - p) (suc n) p (omega (arith, c.loop-number-test.true, c.len.ensures)) c.loop-number.invariant.within)
+    c.in_ok-turn.ensures.turned
+    c.if-turn.false in
     record {
-      alone = c.turn_of.ensures.alone;
-      count = c.turn_of.ensures.players ∙ c.loop-number.invariant.count;
-      places = c.turn_of.ensures.places ∙ c.loop-number.invariant.places ∙ sym c.turn_of.ensures.players;
+      alone = c.take_turn.ensures.alone;
+      places = c.take_turn.ensures.places ∙ c.loop-number.invariant.places ∙ sym c.take_turn.ensures.players;
       kept = c.in_ok-turn.ensures.kept;
       asleep = c.in_ok-turn.ensures.asleep;
-      within = within-next m s old now new c.loop-number.moved n p c.in_ok-turn.turn
-          (within-left m s old now c.loop-number.moved (c.len-number-end.result - p) (suc n) p (omega arith) c.loop-number.invariant.within)
-          c.in_ok-turn.ensures.turned
-          c.if-turn.false;
+      within = within-left m s old new _ n (vec_len c.take_turn.new.players - (p + 1)) (p + 1) (omega (arith, c.take_turn.ensures.players)) next;
     }

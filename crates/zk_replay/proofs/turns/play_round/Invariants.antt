@@ -10,10 +10,12 @@ abbrev pub invariant-loop-number : goal.invariant-loop-number
 invariant-loop-number g l =
     record {
       alone : IsAlone l.scenario (g.V.Services.alone l.services) (g.V.Services.machines l.services) (g.V.Services.serves l.services);
-      count : vec_len l.players ≡ l.number-end;
       places : vec_len l.waiting ≡ vec_len l.players;
       kept : AreKept (machines_of l.scenario) l.scenario (world (g.V.Services.shown l.services) l.players.items) l.waiting.items;
       asleep : AreAsleep (machines_of l.scenario) l.scenario (world (g.V.Services.shown l.services) l.players.items) l.sleepers;
       within : WithinRound (machines_of l.scenario) l.scenario (world (g.V.Services.shown l.initial.services) l.initial.players.items)
-          (world (g.V.Services.shown l.services) l.players.items) l.moved (l.number-end - l.number) l.number;
+          (world (g.V.Services.shown l.services) l.players.items) l.moved (vec_len l.players - l.number) l.number;
     }
+
+abbrev pub decreases-loop-number : goal.decreases-loop-number
+decreases-loop-number g l = vec_len l.players - l.number
