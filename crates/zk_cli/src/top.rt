@@ -3,20 +3,20 @@ ghost use Rattle.std.specs.Io.KnownBytes.{Appends, Keeps};
 ghost use Rattle.zk_base.specs.Causes.{Rose};
 ghost use Rattle.zk_forms.specs.Input.{GaveAtMost};
 ghost use Rattle.zk_forms.specs.Output.{AppendsFront};
-ghost use Rattle.zk_forms.specs.declared.form.Form.TheVariants.{Replay, Check, Migrate, Trigger};
+ghost use Rattle.zk_forms.specs.declared.form.Form.TheVariants.{Replay, Check, Migrate, Trigger, Event};
 ghost use Rattle.zk_forms.specs.Top.{form_of, input_of, IsOutputOf, words_refused, Prints, PrintsFront, HasReadAll, IsAnswer, HasInput, MayEnd, CallOutcome, most_taken};
 
 use std::alloc::Global;
 use zk_base::{Sink, Source, Status};
 use zk_forms::{
-    Form, NoInput, check_output, form_of, limit_of, migrate_output, output_of, read_input,
-    refuse_words, soak_output, triggers_output, write_made,
+    Form, NoInput, check_output, events_output, form_of, limit_of, migrate_output, output_of,
+    read_input, refuse_words, soak_output, triggers_output, write_made,
 };
 
 /// The program over any source and any sink. `replay` reads a scenario, plays it on one thread by round robin, and prints
 /// the scenario's text and the trace. `check` reads that again, and says whether the trace is lawful for the scenario, or at
 /// which line it isn't, and why. `migrate` reads that in format 1, and prints it in format 2. `trigger`
-/// plays a side script of triggered work. `soak N` plays the generated scenario of that number and checks its trace. It always
+/// plays a side script of triggered work, `event` one of an event object. `soak N` plays the generated scenario of that number and checks its trace. It always
 /// returns. The words of `run N` are for `zk_run`, and are refused here.
 ///
 /// The words are those behind the program's name. The whole output is made in memory and then written, piece after
@@ -82,6 +82,7 @@ fn plain<S: Source, K: Sink>(
         Some(Form::Check) => answer_check(alloc, source, sink),
         Some(Form::Migrate) => answer_migrate(alloc, source, sink),
         Some(Form::Trigger) => answer_trigger(alloc, source, sink),
+        Some(Form::Event) => answer_event(alloc, source, sink),
         Some(Form::Soak(number)) => write_made(sink, soak_output(alloc, number)),
         Some(Form::Run(_)) => unreachable!(),
     }
@@ -142,6 +143,21 @@ fn answer_trigger<S: Source, K: Sink>(alloc: Global, source: &mut S, sink: &mut 
 {
     match read_input(alloc, source, limit_of(Form::Trigger)) {
         Ok(input) => write_made(sink, triggers_output(alloc, input)),
+        Err(NoInput::Fault) => Status::ReadFault,
+        Err(NoInput::NoMemory) => Status::NoMemory,
+    }
+}
+
+/// Reads the input of `event`, and prints the output for it.
+fn answer_event<S: Source, K: Sink>(alloc: Global, source: &mut S, sink: &mut K) -> Status
+    ensures most { GaveAtMost (most_taken (Some Event)) (S.left source.old) (S.left source.new) }
+    ensures went { CallOutcome (Some Event) (S.left source.old) (S.left source.new) (K.held sink.old) (K.held sink.new)
+        (S.faults source.old) (S.faults source.new) (K.faults sink.old) (K.faults sink.new) result }
+    ensures reads { result ≢ Status.ReadFault → S.faults source.new ≡ S.faults source.old }
+    ensures writes { result ≢ Status.WriteFault → K.faults sink.new ≡ K.faults sink.old }
+{
+    match read_input(alloc, source, limit_of(Form::Event)) {
+        Ok(input) => write_made(sink, events_output(alloc, input)),
         Err(NoInput::Fault) => Status::ReadFault,
         Err(NoInput::NoMemory) => Status::NoMemory,
     }

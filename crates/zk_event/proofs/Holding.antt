@@ -19,7 +19,7 @@ use Rattle.zk_event.specs.declared.event.EventReply.TheVariants as replies
 use Rattle.zk_event.specs.Event.{Event, new_event, shared, holds, told, found, with_bits, wait_at, event_next, event_in_range, event_machine}
 use Rattle.zk_event.specs.EventLaws.{EventHistory, OfEachEvent, NoneWaitsWhereItHolds}
 
-same : (a b : ℕ) → eqb a b ≡ true → a ≡ b
+pub same : (a b : ℕ) → eqb a b ≡ true → a ≡ b
 same a b is = grind (arith, nat_tests)
 
 is-same : (a b : ℕ) → a ≡ b → eqb a b ≡ true
@@ -68,10 +68,10 @@ none-told true reply is = absurd (cc)
 none-told false reply is = refl
 
 -- it waits for a bit at least, and what it waits for isn't there
-abbrev Waits : ℕ → Waiter Wanted → Type 0
+abbrev pub Waits : ℕ → Waiter Wanted → Type 0
 Waits bits w = (holds bits w.payload ≡ false) × (eqb w.payload.mask 0 ≡ false)
 
-abbrev AllWait : Event → Type 0
+abbrev pub AllWait : Event → Type 0
 AllWait s = All (Waits s.bits) s.waits.waiting
 
 bits-wait : (s : Event) (bits : ℕ) → AllWait s → AllWait (with_bits s bits)
@@ -102,7 +102,7 @@ asked-wait s bits w None true is some wait =
 asked-wait s bits w None false is some wait = wait
 asked-wait s bits w (Some reply) waits is some wait = wait
 
-next-wait : (s : Event) (who : Who) (op : EventOp) → event_in_range new_event op ≡ true → AllWait s → AllWait (event_next s who op)
+pub next-wait : (s : Event) (who : Who) (op : EventOp) → event_in_range new_event op ≡ true → AllWait s → AllWait (event_next s who op)
 next-wait s who (ops.Post bits) range wait = bits-wait s (bit_or s.bits bits) wait
 next-wait s who (ops.Set bits) range wait = bits-wait s bits wait
 next-wait s who (ops.Clear bits) range wait =

@@ -1,7 +1,10 @@
 pub mod BitsLeft
+pub mod Crossing
+pub mod EndBits
 pub mod EventAnswers
 pub mod EventOwed
 pub mod EventWaits
 pub mod Holding
 pub mod Moments
+pub mod Waited
 pub mod WrongEvents

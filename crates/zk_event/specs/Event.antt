@@ -1,4 +1,3 @@
--- Inner: no contract of a top call is made of this file.
 use Rattle.std.specs.Prelude.{ℕ, zero, suc, ◌+◌, ◌-◌, ◌≤◌, Bool, true, false, not, ◌==◌, if◌then◌else◌, bit_and, bit_or, Option, Some, None, is_some}
 use Rattle.zk_base.specs.declared.ids.Who.{Who}
 use Rattle.zk_base.specs.declared.waits.Waiter.{Waiter}

@@ -8,5 +8,6 @@ pub mod PlaysKept
 pub mod PollsKept
 pub mod PublishesKept
 pub mod ScriptsKept
+pub mod SideOutcomes
 pub mod Starts
 pub mod ToldPlayers

@@ -25,17 +25,11 @@ use Rattle.zk_trace.specs.declared.trace.Ending.TheVariants as endings
 use Rattle.zk_trace.specs.declared.trace.Trace.{Trace}
 use Rattle.zk_trace.specs.Lawful.{IsLawful}
 use Rattle.zk_replay.specs.Replay.{IsReplay}
-use Rattle.zk_model_trigger.specs.declared.ops.TriggerOp.{TriggerOp}
-use Rattle.zk_words.specs.Bytes.{line_feed}
-use Rattle.zk_words.specs.Pieces.{pieces_between}
-use Rattle.zk_side.specs.declared.limits.TheConstants.{LONGEST_SIDE_SCRIPT}
-use Rattle.zk_side.specs.declared.refusal.Refusal.{Refusal}
-use Rattle.zk_side.specs.declared.refusal.Refusal.TheVariants.{Length}
-use Rattle.zk_side.specs.Output.{refusal_text, output_for, side_output}
-use Rattle.zk_side.specs.Script.{Asked, script_in, script_of}
-use Rattle.zk_trigger_script.specs.Output.{trigger_stage, IsTriggerOutput}
+use Rattle.zk_side.specs.Script.{script_of}
+use Rattle.zk_trigger_script.specs.Output.{trigger_stage}
+use Rattle.zk_event_script.specs.Output.{event_stage}
 use Rattle.zk_forms.specs.declared.form.Form.{Form}
-use Rattle.zk_forms.specs.declared.form.Form.TheVariants.{Replay, Check, Migrate, Trigger, Soak, Run}
+use Rattle.zk_forms.specs.declared.form.Form.TheVariants.{Replay, Check, Migrate, Trigger, Event, Soak, Run}
 use Rattle.zk_forms.specs.declared.form.TheConstants.{LONGEST_TRACE, MOST_SOAK}
 use Rattle.zk_forms.specs.Input.{HasRead, GaveAtMost}
 use Rattle.zk_forms.specs.Output.{AppendsFront}
@@ -44,6 +38,7 @@ use Rattle.zk_forms.specs.Answer.{IsPrinted, IsRun, IsRefusal, IsOutput, status_
 use Rattle.zk_forms.specs.CheckAnswer.{IsRefusedSo, too_long, no_scenario, no_trace, IsCheckOutput, IsMigrateOutput}
 use Rattle.zk_forms.specs.SoakAnswer.{IsSoakOutput}
 use Rattle.zk_forms.specs.Top.{form_of, limit_of, Reads, input_of, HasGiven, IsOutputOf, words_refused, Prints, PrintsFront, HasReadAll, IsAnswer, HasInput, MayRun, MayEnd, Answered, answered, cut_short, unmade, most_taken, CallOutcome, no_form, no_form_cut, unread, no_memory, printed, cut}
+use Rattle.zk_forms.proofs.SideOutcomes.{side-front, IsAnswer-side}
 
 -- what was not written to stays
 pub Keeps-same : (held : Option (List ℕ)) → Keeps held held
@@ -157,27 +152,14 @@ migrate-front status n input output is out = elim (cases_lt n (length input)) [
       long_migrate status (take n input) input output (omega arith) (omega arith) out
 ]
 
--- and of a side script
-side-long : (input : List ℕ) → LONGEST_SIDE_SCRIPT < length input → side_output trigger_stage input ≡ (refusal_text Length, Refused)
-side-long input more =
-    ap (λ (b : Bool). output_for trigger_stage (cond b (Err Length) (script_in trigger_stage.op_of (pieces_between line_feed input))))
-    (lt-ltb LONGEST_SIDE_SCRIPT (length input) more)
-
-trigger-front : (status : Status) (n : ℕ) (input output : List ℕ) → n ≡ LONGEST_SIDE_SCRIPT + 1 → IsTriggerOutput status (take n input) output → IsTriggerOutput status input output
-trigger-front status n input output is out = elim (cases_lt n (length input)) [
-  | inr within ↦ subst (λ (i : List ℕ). IsTriggerOutput status i output) (take_all n input within) out
-  | inl above ↦
-      let sized = length-take-le n input (omega arith) in
-      side-long input (omega arith) ∙ sym (side-long (take n input) (omega arith)) ∙ out
-]
-
 IsOutput-front : (form : Form) → Reads form → (status : Status) (n : ℕ) (input output : List ℕ) → n ≡ limit_of form + 1 → IsOutputOf form status (take n input) output →
     IsOutputOf form status input output
 IsOutput-front Replay reads status n input output is out = run-front IsReplay status n input output is out
 IsOutput-front (Run cores) reads status n input output is out = run-front IsLawful status n input output is out
 IsOutput-front Check reads status n input output is out = check-front status n input output is out
 IsOutput-front Migrate reads status n input output is out = migrate-front status n input output is out
-IsOutput-front Trigger reads status n input output is out = trigger-front status n input output is out
+IsOutput-front Trigger reads status n input output is out = side-front trigger_stage status n input output is out
+IsOutput-front Event reads status n input output is out = side-front event_stage status n input output is out
 IsOutput-front (Soak number) reads status n input output is out = absurd reads
 
 -- a status that has an output of a check is one that prints
@@ -204,11 +186,6 @@ IsAnswer-migrate ReadFault input output is = absurd is
 IsAnswer-migrate WriteFault input output is = absurd is
 IsAnswer-migrate NoMemory input output is = absurd is
 
--- and of a side script
-IsAnswer-side : (said : Result (List (Asked TriggerOp)) Refusal) (output : List ℕ) (status : Status) → output_for trigger_stage said ≡ (output, status) → IsAnswer status
-IsAnswer-side (Ok lines) output status is = subst IsAnswer (ap (λ (p : List ℕ × Status). p.1) is) tt
-IsAnswer-side (Err refusal) output status is = subst IsAnswer (ap (λ (p : List ℕ × Status). p.1) is) tt
-
 -- and so is one that has an output of a soak
 IsAnswer-soak : (number : ℕ) (status : Status) (output : List ℕ) → IsSoakOutput number status output → IsAnswer status
 IsAnswer-soak number Success output is = tt
@@ -226,7 +203,8 @@ IsAnswer-of Replay status input output is = IsAnswer-output IsReplay status inpu
 IsAnswer-of (Run cores) status input output is = IsAnswer-output IsLawful status input output is
 IsAnswer-of Check status input output is = IsAnswer-check status input output is
 IsAnswer-of Migrate status input output is = IsAnswer-migrate status input output is
-IsAnswer-of Trigger status input output is = IsAnswer-side (script_of trigger_stage.op_of input) output status is
+IsAnswer-of Trigger status input output is = IsAnswer-side trigger_stage (script_of trigger_stage.op_of input) output status is
+IsAnswer-of Event status input output is = IsAnswer-side event_stage (script_of event_stage.op_of input) output status is
 IsAnswer-of (Soak number) status input output is = IsAnswer-soak number status output is
 
 given : (many : ℕ) (left left' : Option (List ℕ)) (read : List ℕ) → HasRead many left left' read → HasGiven (many + 1) left left'
@@ -239,6 +217,7 @@ HasReadAll-read Replay reads left left' read has = given (limit_of Replay) left 
 HasReadAll-read Check reads left left' read has = given (limit_of Check) left left' read has
 HasReadAll-read Migrate reads left left' read has = given (limit_of Migrate) left left' read has
 HasReadAll-read Trigger reads left left' read has = given (limit_of Trigger) left left' read has
+HasReadAll-read Event reads left left' read has = given (limit_of Event) left left' read has
 HasReadAll-read (Run cores) reads left left' read has = given (limit_of (Run cores)) left left' read has
 HasReadAll-read (Soak number) reads left left' read has = absurd reads
 
@@ -248,6 +227,7 @@ input-left Replay reads left = refl
 input-left Check reads left = refl
 input-left Migrate reads left = refl
 input-left Trigger reads left = refl
+input-left Event reads left = refl
 input-left (Run cores) reads left = refl
 input-left (Soak number) reads left = absurd reads
 
@@ -313,14 +293,16 @@ taken-none most (Some input) = ([], omega arith, refl)
 pub never-cores : (words : List (List ℕ)) (cores : ℕ) → form_of words ≡ Some (Run cores) → ⊥
 never-cores [] cores is = absurd (cc)
 never-cores (word ∷ []) cores is =
-    by (bytes_eq word (codes "replay")) (bytes_eq word (codes "check")) (bytes_eq word (codes "migrate")) (bytes_eq word (codes "trigger")) is
+    by (bytes_eq word (codes "replay")) (bytes_eq word (codes "check")) (bytes_eq word (codes "migrate")) (bytes_eq word (codes "trigger"))
+    (bytes_eq word (codes "event")) is
   where
-    by : (a b c d : Bool) → cond a (Some Replay) (cond b (Some Check) (cond c (Some Migrate) (cond d (Some Trigger) None))) ≡ Some (Run cores) → ⊥
-    by true b c d is = absurd (cc)
-    by false true c d is = absurd (cc)
-    by false false true d is = absurd (cc)
-    by false false false true is = absurd (cc)
-    by false false false false is = absurd (cc)
+    by : (a b c d e : Bool) → cond a (Some Replay) (cond b (Some Check) (cond c (Some Migrate) (cond d (Some Trigger) (cond e (Some Event) None)))) ≡ Some (Run cores) → ⊥
+    by true b c d e is = absurd (cc)
+    by false true c d e is = absurd (cc)
+    by false false true d e is = absurd (cc)
+    by false false false true e is = absurd (cc)
+    by false false false false true is = absurd (cc)
+    by false false false false false is = absurd (cc)
 never-cores (word ∷ number ∷ []) cores is = by (bytes_eq word (codes "soak")) (number_in 0 MOST_SOAK number) is
   where
     by : (a : Bool) (o : Option ℕ) → cond a (option_map Soak o) None ≡ Some (Run cores) → ⊥
@@ -490,6 +472,15 @@ MayEnd-output Trigger Words input output is = ap (λ (p : List ℕ × Status). p
 MayEnd-output Trigger ReadFault input output is = tt
 MayEnd-output Trigger WriteFault input output is = tt
 MayEnd-output Trigger NoMemory input output is = tt
+MayEnd-output Event Success input output is = ap (λ (p : List ℕ × Status). p.1) is
+MayEnd-output Event Refused input output is = ap (λ (p : List ℕ × Status). p.1) is
+MayEnd-output Event Unlawful input output is = ap (λ (p : List ℕ × Status). p.1) is
+MayEnd-output Event Stuck input output is = ap (λ (p : List ℕ × Status). p.1) is
+MayEnd-output Event Spent input output is = ap (λ (p : List ℕ × Status). p.1) is
+MayEnd-output Event Words input output is = ap (λ (p : List ℕ × Status). p.1) is
+MayEnd-output Event ReadFault input output is = tt
+MayEnd-output Event WriteFault input output is = tt
+MayEnd-output Event NoMemory input output is = tt
 MayEnd-output (Soak number) Success input output is = tt
 MayEnd-output (Soak number) Stuck input output is = tt
 MayEnd-output (Soak number) Spent input output is = tt
@@ -513,6 +504,7 @@ may-unread Replay does input = tt
 may-unread Check does input = tt
 may-unread Migrate does input = tt
 may-unread Trigger does input = tt
+may-unread Event does input = tt
 may-unread (Run cores) does input = tt
 may-unread (Soak number) does input = absurd does
 
@@ -521,6 +513,7 @@ may-want Replay input = tt
 may-want Check input = tt
 may-want Migrate input = tt
 may-want Trigger input = tt
+may-want Event input = tt
 may-want (Run cores) input = tt
 may-want (Soak number) input = tt
 
@@ -529,6 +522,7 @@ may-cut Replay input = tt
 may-cut Check input = tt
 may-cut Migrate input = tt
 may-cut Trigger input = tt
+may-cut Event input = tt
 may-cut (Run cores) input = tt
 may-cut (Soak number) input = tt
 

@@ -20,7 +20,8 @@ use Rattle.zk_forms.specs.declared.form.Form.{Form}
 use Rattle.zk_side.specs.declared.limits.TheConstants.{LONGEST_SIDE_SCRIPT}
 use Rattle.zk_side.specs.Output.{side_output}
 use Rattle.zk_trigger_script.specs.Output.{trigger_stage, IsTriggerOutput}
-use Rattle.zk_forms.specs.declared.form.Form.TheVariants.{Replay, Check, Migrate, Trigger, Soak, Run}
+use Rattle.zk_event_script.specs.Output.{event_stage, IsEventOutput}
+use Rattle.zk_forms.specs.declared.form.Form.TheVariants.{Replay, Check, Migrate, Trigger, Event, Soak, Run}
 use Rattle.zk_forms.specs.declared.form.TheConstants.{LONGEST_TRACE, MOST_SOAK}
 use Rattle.zk_forms.specs.Output.{AppendsFront}
 use Rattle.zk_forms.specs.Answer.{IsOutput}
@@ -28,13 +29,14 @@ use Rattle.zk_forms.specs.CheckAnswer.{IsTraceOf, IsCheckOutput, IsMigrateOutput
 use Rattle.zk_forms.specs.SoakAnswer.{IsSoakOutput}
 
 -- the form on one thread that the words ask for, if they are those of one: the word `replay` alone, or `check`, or `migrate`, or
--- `trigger`, or `soak` and a number
+-- `trigger`, or `event`, or `soak` and a number
 abbrev pub form_of : List (List ℕ) → Option Form
 form_of (word ∷ []) =
     if bytes_eq word (codes "replay") then Some Replay else
     if bytes_eq word (codes "check") then Some Check else
     if bytes_eq word (codes "migrate") then Some Migrate else
-    if bytes_eq word (codes "trigger") then Some Trigger else None
+    if bytes_eq word (codes "trigger") then Some Trigger else
+    if bytes_eq word (codes "event") then Some Event else None
 form_of (word ∷ number ∷ []) =
     if bytes_eq word (codes "soak") then option_map Soak (number_in 0 MOST_SOAK number) else None
 form_of words = None
@@ -56,6 +58,7 @@ Reads Replay = Unit {0}
 Reads Check = Unit {0}
 Reads Migrate = Unit {0}
 Reads Trigger = Unit {0}
+Reads Event = Unit {0}
 Reads (Run cores) = Unit {0}
 Reads (Soak number) = ⊥
 
@@ -65,6 +68,7 @@ input_of Replay left = left
 input_of Check left = left
 input_of Migrate left = left
 input_of Trigger left = left
+input_of Event left = left
 input_of (Run cores) left = left
 input_of (Soak number) left = Some []
 
@@ -74,6 +78,7 @@ limit_of Replay = LONGEST_SCENARIO
 limit_of Check = LONGEST_TRACE
 limit_of Migrate = LONGEST_TRACE
 limit_of Trigger = LONGEST_SIDE_SCRIPT
+limit_of Event = LONGEST_SIDE_SCRIPT
 limit_of (Run cores) = LONGEST_SCENARIO
 limit_of (Soak number) = 0
 
@@ -84,6 +89,7 @@ most_taken (Some Replay) = LONGEST_SCENARIO + 1
 most_taken (Some Check) = LONGEST_TRACE + 1
 most_taken (Some Migrate) = LONGEST_TRACE + 1
 most_taken (Some Trigger) = LONGEST_SIDE_SCRIPT + 1
+most_taken (Some Event) = LONGEST_SIDE_SCRIPT + 1
 most_taken (Some (Run cores)) = LONGEST_SCENARIO + 1
 most_taken (Some (Soak number)) = 0
 
@@ -94,6 +100,7 @@ IsOutputOf Replay status input output = IsOutput IsReplay status input output
 IsOutputOf Check status input output = IsCheckOutput status input output
 IsOutputOf Migrate status input output = IsMigrateOutput status input output
 IsOutputOf Trigger status input output = IsTriggerOutput status input output
+IsOutputOf Event status input output = IsEventOutput status input output
 IsOutputOf (Run cores) status input output = IsOutput IsLawful status input output
 IsOutputOf (Soak number) status input output = IsSoakOutput number status output
 
@@ -124,6 +131,7 @@ HasReadAll Replay old new = HasGiven (limit_of Replay + 1) old new
 HasReadAll Check old new = HasGiven (limit_of Check + 1) old new
 HasReadAll Migrate old new = HasGiven (limit_of Migrate + 1) old new
 HasReadAll Trigger old new = HasGiven (limit_of Trigger + 1) old new
+HasReadAll Event old new = HasGiven (limit_of Event + 1) old new
 HasReadAll (Run cores) old new = HasGiven (limit_of (Run cores) + 1) old new
 HasReadAll (Soak number) old new = new ≡ old
 
@@ -170,6 +178,10 @@ MayMigrate input status = ⊥
 abbrev pub MayTrigger : List ℕ → Status → Type 0
 MayTrigger input status = (side_output trigger_stage input).1 ≡ status
 
+-- and likewise that of `event`
+abbrev pub MayEvent : List ℕ → Status → Type 0
+MayEvent input status = (side_output event_stage input).1 ≡ status
+
 -- the statuses of a soak that can come: as the run ended
 abbrev pub MaySoak : Status → Type 0
 MaySoak Success = Unit {0}
@@ -186,6 +198,7 @@ MayEnd Replay input status = MayRun (scenario_of input) status
 MayEnd Check input status = MayCheck input status
 MayEnd Migrate input status = MayMigrate input status
 MayEnd Trigger input status = MayTrigger input status
+MayEnd Event input status = MayEvent input status
 MayEnd (Run cores) input status = MayRun (scenario_of input) status
 MayEnd (Soak number) input status = MaySoak status
 

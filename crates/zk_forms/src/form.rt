@@ -19,6 +19,8 @@ pub enum Form {
     Migrate,
     /// `trigger`: plays a side script of triggered work, and prints each line with its reply.
     Trigger,
+    /// `event`: plays a side script of an event object, and prints each line with its reply.
+    Event,
     /// `soak N`: plays the generated scenario of this number, checks the trace, and prints one line. It reads nothing.
     Soak(u32),
     /// `run N`: reads a scenario, plays it on that many cores, from 1 to 16, and prints its text and the trace.
@@ -37,6 +39,7 @@ pub fn form_of(words: &[String]) -> Option<Form>
         [word] if word.as_bytes() == b"check".as_slice() => Some(Form::Check),
         [word] if word.as_bytes() == b"migrate".as_slice() => Some(Form::Migrate),
         [word] if word.as_bytes() == b"trigger".as_slice() => Some(Form::Trigger),
+        [word] if word.as_bytes() == b"event".as_slice() => Some(Form::Event),
         [word, number] if word.as_bytes() == b"soak".as_slice() => soak_of(number.as_bytes()),
         _ => None,
     }
@@ -82,6 +85,7 @@ pub fn limit_of(form: Form) -> usize
         Form::Check => LONGEST_TRACE,
         Form::Migrate => LONGEST_TRACE,
         Form::Trigger => LONGEST_SIDE_SCRIPT,
+        Form::Event => LONGEST_SIDE_SCRIPT,
         Form::Soak(_) => 0,
         Form::Run(_) => LONGEST_SCENARIO,
     }

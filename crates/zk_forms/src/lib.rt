@@ -4,6 +4,7 @@
 
 mod answer;
 mod check;
+mod event;
 mod form;
 mod input;
 mod meaning;
@@ -14,6 +15,7 @@ mod trigger;
 
 pub use answer::{cores_output, output_of};
 pub use check::{check_output, trace_refusal};
+pub use event::events_output;
 pub use form::{Form, LONGEST_TRACE, cores_of, form_of, limit_of, needs_cores};
 pub use input::{NoInput, read_input};
 pub use meaning::has_one_meaning;

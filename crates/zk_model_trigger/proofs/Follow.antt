@@ -4,6 +4,7 @@ use Rattle.std.specs.List.{filter, filter_map, find}
 use Rattle.std.proofs.lemmas.List.{drop-drop, drop-append-le, length-append, length-drop}
 use Rattle.std.proofs.lemmas.List.Elements.{All-nil, filter_agree}
 use Rattle.std.proofs.lemmas.List.Sums.{sum_by_push}
+use Rattle.zk_base.specs.Legal.{Replays}
 use Rattle.zk_base.proofs.Firsts.{one_if}
 use Rattle.zk_base.proofs.Histories.{state_after-snoc, by_entries}
 use Rattle.zk_model_trigger.specs.declared.ops.Cause.{Cause}
@@ -14,7 +15,7 @@ use Rattle.zk_model_trigger.specs.declared.ops.TriggerReply.TheVariants as repli
 use Rattle.zk_model_trigger.specs.declared.parts.Arm.{Arm}
 use Rattle.zk_model_trigger.specs.declared.parts.Fire.{Fire}
 use Rattle.zk_model_trigger.specs.Arms.{is_among, is_reached, waiting, found_cause, first_cause, has_live, fire_of}
-use Rattle.zk_model_trigger.specs.Machine.{Triggers, new_triggers, trigger_next, trigger_machine}
+use Rattle.zk_model_trigger.specs.Machine.{Triggers, new_triggers, trigger_reply, trigger_next, trigger_machine}
 use Rattle.zk_model_trigger.specs.Histories.{TriggerEntry, TriggerHistory, IsTriggerHistory, triggers_after, posts, unposts, event_ready, ticks_of, time_after, is_armed, arms_in, arms_item, cancels_item, takes_item, is_busy, made_by, cause_after, if_waiting, waiting_after, firing_order, fire_after, fires_by, fires_of, is_next, taken_in}
 use Rattle.zk_model_trigger.specs.Steady.{IsSound, IsQuiet, cause_in}
 use Rattle.zk_model_trigger.proofs.Lists.{find_agree, filter_map-agree}
@@ -165,6 +166,14 @@ follow-step h s s' e f made = record {
   quiet : IsQuiet s'
   quiet = quiet-after s s' e.op e.reply made
 
+-- with the entry of an operation that is possible
+pub follow-next : (h : TriggerHistory) (e : TriggerEntry) → Follows h (triggers_after h) →
+    trigger_reply (triggers_after h) e.who e.op ≡ Some e.reply →
+    Follows (h ++ e ∷ []) (trigger_next (triggers_after h) e.who e.op)
+follow-next h e is reply =
+    follow-step h (triggers_after h) (trigger_next (triggers_after h) e.who e.op) e is
+    (step (triggers_after h) e.who is.sound is.quiet e.op e.reply reply)
+
 follows-start : Follows [] new_triggers
 follows-start = record {
   now = refl;
@@ -178,11 +187,13 @@ follows-start = record {
   quiet = All-nil (λ a. cause_in new_triggers a ≡ None);
 }
 
--- the state after each legal history is told by its entries
-pub follows : (h : TriggerHistory) → IsTriggerHistory h → Follows h (triggers_after h)
-follows h legal =
+-- the state after each history that the machine replays is told by its entries
+pub follows-replayed : (h : TriggerHistory) → Replays trigger_machine new_triggers h → Follows h (triggers_after h)
+follows-replayed h replays =
     by_entries trigger_machine new_triggers (λ g. Follows g (triggers_after g))
-    (λ g e replays reply is. subst (Follows (g ++ e ∷ [])) (sym (state_after-snoc trigger_machine new_triggers g e))
-    (follow-step g (triggers_after g) (trigger_next (triggers_after g) e.who e.op) e is
-    (step (triggers_after g) e.who is.sound is.quiet e.op e.reply reply)))
-    [] h legal.0 follows-start
+    (λ g e before reply is. subst (Follows (g ++ e ∷ [])) (sym (state_after-snoc trigger_machine new_triggers g e))
+    (follow-next g e is reply))
+    [] h replays follows-start
+
+pub follows : (h : TriggerHistory) → IsTriggerHistory h → Follows h (triggers_after h)
+follows h legal = follows-replayed h legal.0

@@ -1,5 +1,6 @@
 pub mod Causes
 pub mod Changing
+pub mod Ends
 pub mod Follow
 pub mod InRange
 pub mod Lists

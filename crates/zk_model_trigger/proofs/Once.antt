@@ -21,11 +21,11 @@ use Rattle.zk_model_trigger.proofs.Lists.{count-cons, count-by_key, count-both}
 use Rattle.zk_model_trigger.proofs.Waiting.{stays_by, waiting_from-snoc, fires_from-snoc}
 
 -- an arm of this number
-abbrev numbered : ℕ → Arm → Bool
+abbrev pub numbered : ℕ → Arm → Bool
 numbered n a = eqb a.number n
 
 -- a fire of it
-abbrev fired_as : ℕ → Fire → Bool
+abbrev pub fired_as : ℕ → Fire → Bool
 fired_as n f = eqb f.arm.number n
 
 -- as many fires as arms that have a cause
@@ -76,7 +76,7 @@ count-less n p q (x ∷ xs) = by (p x) (q x) (count-less n p q xs) where
   by false false rest = rest
 
 -- by number, what waits or has fired
-abbrev in_all : ℕ → TriggerHistory → ℕ
+abbrev pub in_all : ℕ → TriggerHistory → ℕ
 in_all n h = count_by (numbered n) (waiting_after h) + count_by (fired_as n) (fires_of h)
 
 -- the one that an entry makes waits, or fires, and not both
@@ -91,7 +91,7 @@ own-once n h (Some a) = by (has_cause h a) where
   by false = omega arith
 
 -- an entry adds no more than the arm that it makes
-more : (n : ℕ) (h : TriggerHistory) (e : TriggerEntry) →
+pub more : (n : ℕ) (h : TriggerHistory) (e : TriggerEntry) →
     in_all n (h ++ e ∷ []) ≤ in_all n h + count_by (numbered n) (option_to_list (made_by h e.op e.reply))
 more n h e =
     let after = h ++ e ∷ [] in
@@ -116,7 +116,7 @@ more n h e =
     omega arith
 
 -- the arm that an entry makes has the next number
-made-number : (n : ℕ) (h : TriggerHistory) (op : TriggerOp) (reply : TriggerReply) →
+pub made-number : (n : ℕ) (h : TriggerHistory) (op : TriggerOp) (reply : TriggerReply) →
     (arms_in h + one_if (is_armed reply) ≤ n → count_by (numbered n) (option_to_list (made_by h op reply)) ≡ 0)
     × ((count_by (numbered n) (option_to_list (made_by h op reply)) ≡ 0) ⊎
     ((arms_in h ≡ n) × (count_by (numbered n) (option_to_list (made_by h op reply)) ≡ 1)))

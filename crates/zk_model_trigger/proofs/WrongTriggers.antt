@@ -1,5 +1,5 @@
 -- Machines that are wrong in one line. Of each a short history that it lets stand, and the law that is false of it.
-use Rattle.std.proofs.Common.{◌≡◌, ℕ, ◌+◌, Bool, false, ◌&&◌, cond, ltb, Option, Some, None, [], ◌∷◌, ◌++◌, map, pos, refl}
+use Rattle.std.proofs.Common.{◌≡◌, ℕ, ◌+◌, ◌≤◌, Bool, false, ◌&&◌, cond, ltb, Option, Some, None, [], ◌∷◌, ◌++◌, map, pos, refl, arith}
 use Rattle.std.specs.List.{filter}
 use Rattle.zk_base.specs.declared.ids.Who.{Who}
 use Rattle.zk_base.specs.History.{entry}
@@ -16,7 +16,7 @@ use Rattle.zk_model_trigger.specs.declared.parts.Change.TheVariants as changes
 use Rattle.zk_model_trigger.specs.declared.parts.Occasion.TheVariants.{Posted, Reached}
 use Rattle.zk_model_trigger.specs.Machine.{Triggers, new_triggers, trigger_reply, trigger_next, trigger_machine, posted, asked, armed_with}
 use Rattle.zk_model_trigger.specs.Histories.{TriggerHistory}
-use Rattle.zk_model_trigger.specs.Laws.{EachIsTold}
+use Rattle.zk_model_trigger.specs.Laws.{EachIsTold, EndsOnce}
 
 abbrev one : Who
 one = record { number = 0; prio = pos 0 }
@@ -145,6 +145,10 @@ pub back-refused : EachIsTold back → ⊥
 back-refused law =
     let is : Some replies.Inval ≡ Some replies.Done = law fired_before [] (entry one 2 (ops.Cancel 0) replies.Done) refl in
     cc
+
+-- and so the same arm fires, is given up, and is submitted all the same
+pub back-ends_twice : EndsOnce back → ⊥
+back-ends_twice law = let most : 2 ≤ 1 = law 0 in absurd (omega arith)
 
 -- An arm that waits though its event is ready.
 

@@ -167,3 +167,35 @@ is_next _ = false
 -- how many fires were taken
 abbrev pub taken_in : TriggerHistory → ℕ
 taken_in h = count_by (λ e. is_next e.op) h
+
+-- What is given up.
+
+-- the newer of the item's two arms: the one that an entry makes, if it is the item's
+abbrev pub newer : ℕ → Option Arm → Option Arm → Option Arm
+newer item None last = last
+newer item (Some a) last = if a.item == item then Some a else last
+
+-- the last arm of the item that the later entries make, else this one
+abbrev pub last_from : ℕ → Option Arm → TriggerHistory → TriggerHistory → Option Arm
+last_from item last front [] = last
+last_from item last front (e ∷ since) =
+    last_from item (newer item (made_by front e.op e.reply) last) (front ++ e ∷ []) since
+
+-- the last arm of the item
+abbrev pub last_of : TriggerHistory → ℕ → Option Arm
+last_of h item = last_from item None [] h
+
+-- the arm that an operation gives up after these entries, so answered: the last one of its item
+abbrev pub given_up : TriggerHistory → TriggerOp → TriggerReply → Option Arm
+given_up front (ops.Cancel item) Done = last_of front item
+given_up front _ _ = None
+
+-- the arms that the later entries give up
+abbrev pub given_up_from : TriggerHistory → TriggerHistory → List Arm
+given_up_from front [] = []
+given_up_from front (e ∷ since) =
+    option_to_list (given_up front e.op e.reply) ++ given_up_from (front ++ e ∷ []) since
+
+-- all arms that were given up, in their order
+abbrev pub all_given_up : TriggerHistory → List Arm
+all_given_up h = given_up_from [] h

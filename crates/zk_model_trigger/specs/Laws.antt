@@ -8,7 +8,7 @@ use Rattle.zk_model_trigger.specs.declared.ops.TriggerReply.{TriggerReply}
 use Rattle.zk_model_trigger.specs.declared.ops.TriggerReply.TheVariants.{Armed, Busy, Done, Inval, Now}
 use Rattle.zk_model_trigger.specs.Arms.{told_fire}
 use Rattle.zk_model_trigger.specs.Machine.{trigger_reply}
-use Rattle.zk_model_trigger.specs.Histories.{TriggerEntry, TriggerHistory, IsTriggerHistory, triggers_after, time_after, arms_in, is_busy, waiting_after, fires_of, taken_in}
+use Rattle.zk_model_trigger.specs.Histories.{TriggerEntry, TriggerHistory, IsTriggerHistory, triggers_after, time_after, arms_in, is_busy, waiting_after, fires_of, taken_in, all_given_up}
 
 -- The reply to an operation by the entries before it, and None where it isn't possible.
 -- An arm is busy exactly where the item has one that was neither cancelled nor taken; its number counts the arms before it.
@@ -40,8 +40,14 @@ EachIsTold h = (front rest : TriggerHistory) (e : TriggerEntry) → h ≡ front 
 abbrev pub FiresOnce : TriggerHistory → Type 0
 FiresOnce h = (number : ℕ) → count_by (λ f. f.arm.number == number) (fires_of h) ≤ 1
 
--- the laws of triggers: replies are fixed by the entries before them, and an arm fires once at most
+-- an arm fires once, or is given up once, or neither; never both
+abbrev pub EndsOnce : TriggerHistory → Type 0
+EndsOnce h = (number : ℕ) →
+    count_by (λ f. f.arm.number == number) (fires_of h) + count_by (λ a. a.number == number) (all_given_up h) ≤ 1
+
+-- the laws of triggers: replies are fixed by the entries before them, and an arm fires or is given up, once at most
 pub record KeepsTriggerLaws (h : TriggerHistory) : Type 0 where
   pub possible : RepliesAreTold h
   pub told : EachIsTold h
   pub once : FiresOnce h
+  pub ends : EndsOnce h

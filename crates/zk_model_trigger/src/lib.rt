@@ -9,7 +9,7 @@ mod questions;
 mod state;
 
 pub use changes::deadline_after;
-pub use laws::{fires_once, keeps_trigger_laws, replies_are_told};
+pub use laws::{ends_once, fires_once, keeps_trigger_laws, replies_are_told};
 pub use ops::{Cause, TriggerOp, TriggerReply};
 pub use parts::{Arm, Armed, Change, Fire, Life, Occasion};
 pub use questions::is_reached;

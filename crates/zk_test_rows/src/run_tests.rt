@@ -123,3 +123,15 @@ fn each_fault_of_a_refusal_is_told(rt: HostRuntime) -> Result<(), Fail> {
     each_fault(&rt, &["replay"], &input, &["refused 8 name\n"])?;
     Ok(())
 }
+
+/// A side script: what fires, and what isn't possible.
+#[test]
+fn each_fault_of_a_side_script_is_told(rt: HostRuntime) -> Result<(), Fail> {
+    let input = ["zx 1\n0 arm 0 0 none 3 5\n1 post 5\n", "2 next\n2 next\n"];
+    let output = [
+        "zx 1\n0.0 arm 0 0 none 3 5 = armed 0\n1.0 post 5 = ok\n",
+        "2.0 next = fire 0 0 0 event 5\n2 next = none\n",
+    ];
+    each_fault(&rt, &["trigger"], &input, &output)?;
+    Ok(())
+}

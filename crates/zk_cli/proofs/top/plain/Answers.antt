@@ -22,6 +22,10 @@ pub returns-in-Some-Trigger-clause-went : goal.returns-in-Some-Trigger-clause-we
 returns-in-Some-Trigger-clause-went g c =
     Went-for _ _ _ _ _ _ _ _ _ _ _ (sym c.form_of.ensures ∙ c.in-Some-Trigger.is ∙ ap Some c.in-Some-Trigger.field-0-is) c.answer_trigger.ensures.went
 
+pub returns-in-Some-Event-clause-went : goal.returns-in-Some-Event-clause-went
+returns-in-Some-Event-clause-went g c =
+    Went-for _ _ _ _ _ _ _ _ _ _ _ (sym c.form_of.ensures ∙ c.in-Some-Event.is ∙ ap Some c.in-Some-Event.field-0-is) c.answer_event.ensures.went
+
 pub returns-in-Some-Soak-clause-went : goal.returns-in-Some-Soak-clause-went
 returns-in-Some-Soak-clause-went g c =
     Went-soaked _ _ _ _ _ _ _ _ c.in-Some-Soak.number [] (sym c.form_of.ensures ∙ c.in-Some-Soak.is ∙ ap Some c.in-Some-Soak.field-0-is)
@@ -45,6 +49,10 @@ returns-in-Some-Migrate-clause-most g c =
 pub returns-in-Some-Trigger-clause-most : goal.returns-in-Some-Trigger-clause-most
 returns-in-Some-Trigger-clause-most g c =
     taken-for _ _ _ _ (sym c.form_of.ensures ∙ c.in-Some-Trigger.is ∙ ap Some c.in-Some-Trigger.field-0-is) c.answer_trigger.ensures.most
+
+pub returns-in-Some-Event-clause-most : goal.returns-in-Some-Event-clause-most
+returns-in-Some-Event-clause-most g c =
+    taken-for _ _ _ _ (sym c.form_of.ensures ∙ c.in-Some-Event.is ∙ ap Some c.in-Some-Event.field-0-is) c.answer_event.ensures.most
 
 pub returns-in-Some-Soak-clause-most : goal.returns-in-Some-Soak-clause-most
 returns-in-Some-Soak-clause-most g c =

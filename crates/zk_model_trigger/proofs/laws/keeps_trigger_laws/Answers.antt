@@ -5,4 +5,5 @@ returns c = λ h legal. record {
   possible = c.replies_are_told.ensures.possible h legal;
   told = c.replies_are_told.ensures.told h legal;
   once = c.fires_once.ensures h legal;
+  ends = c.ends_once.ensures h legal;
 }
