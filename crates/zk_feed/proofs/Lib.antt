@@ -1,0 +1,9 @@
+pub mod Crossing
+pub mod Gathering
+pub mod Heard
+pub mod Lines
+pub mod Opening
+pub mod Opens
+pub mod Places
+pub mod Sends
+pub mod Taking

@@ -1,0 +1,3 @@
+pub mod Feeding
+pub mod Lasts
+pub mod Output
