@@ -15,7 +15,8 @@ pub const LONGEST_NAME: usize = 16;
 pub struct Name {
     // The name, then zeros.
     bytes: [u8; LONGEST_NAME],
-    len: usize,
+    // How many of them are the name: one byte, so that a name takes 17.
+    len: u8,
 }
 
 impl Model for Name {
@@ -51,7 +52,7 @@ impl Name {
         bytes[..text.len()].copy_from_slice(text);
         Some(Name {
             bytes,
-            len: text.len(),
+            len: text.len() as u8,
         })
     }
 
@@ -59,7 +60,7 @@ impl Name {
     pub fn bytes(&self) -> &[u8]
         ensures { result.now ≡ self.now }
     {
-        &self.bytes[..self.len]
+        &self.bytes[..self.len as usize]
     }
 }
 

@@ -11,15 +11,18 @@ use std::sync::Wait;
 use std::thread::Threads;
 use zk_base::{Gate, Sink, Source, Status};
 use zk_forms::{
-    Form, NoInput, cores_of, cores_output, limit_of, read_input, refuse_words, write_made,
+    Form, NoInput, cores_form_of, cores_output, feed_output, limit_of, read_input, refuse_words,
+    write_made,
 };
 
-/// The program's form `run N` over any source, any sink and any gate: it reads a scenario, plays it on N cores, from 1 to 16, and
-/// prints the scenario's text and the trace. All other words are refused.
+/// The program's forms on cores over any source, any sink and any gate. `run N` reads a scenario, plays it on N cores, from 1 to
+/// 16, and prints the scenario's text and the trace. `feed P S N` reads nothing: P publishers send N messages each to S
+/// subscribers, and what each of these took is printed. All other words are refused.
 ///
-/// The trace is a lawful one, however the cores interleave. Nothing is claimed of which one it is, nor that it returns, since a
-/// core may wait for a turn. Each core asks the gate each time before it plays a player. What is said of the input and
-/// the output is said where the source and the sink tell their bytes.
+/// The trace is a lawful one, and each subscriber gets each message once, of each publisher in its order, however the threads
+/// interleave. Nothing is claimed of which trace it is, of the order of two publishers' messages, nor that it returns, since
+/// a core and a publisher may wait for a turn. Each core asks the gate each time before it plays a player, and each publisher before
+/// each of its messages. What is said of the input and the output is said where the source and the sink tell their bytes.
 pub fn zk_run<R: Threads + Wait + Sync, S: Source, K: Sink, G: Gate + Sync>(
     rt: &R,
     alloc: Global,
@@ -78,9 +81,13 @@ fn run<R: Threads + Wait + Sync, S: Source, K: Sink, G: Gate + Sync>(
     ensures reads { result ≢ Status.ReadFault → S.faults source.new ≡ S.faults source.old }
     ensures writes { result ≢ Status.WriteFault → K.faults sink.new ≡ K.faults sink.old }
 {
-    match cores_of(words) {
+    match cores_form_of(words) {
         None => refuse_words(sink),
-        Some(cores) => answer_run(rt, alloc, cores, source, sink, gate),
+        Some(form) => match form {
+            Form::Run(cores) => answer_run(rt, alloc, cores, source, sink, gate),
+            Form::Feed(size) => write_made(sink, feed_output(rt, alloc, size, gate)),
+            _ => unreachable!(),
+        },
     }
 }
 

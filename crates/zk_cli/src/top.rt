@@ -16,8 +16,8 @@ use zk_forms::{
 /// The program over any source and any sink. `replay` reads a scenario, plays it on one thread by round robin, and prints
 /// the scenario's text and the trace. `check` reads that again, and says whether the trace is lawful for the scenario, or at
 /// which line it isn't, and why. `migrate` reads that in format 1, and prints it in format 2. `trigger`
-/// plays a side script of triggered work, `event` one of an event object. `soak N` plays the generated scenario of that number and checks its trace. It always
-/// returns. The words of `run N` are for `zk_run`, and are refused here.
+/// plays a side script of triggered work, `event` one of an event object. `soak N` plays the generated scenario of that number and
+/// checks its trace. It always returns. The words of `run N` and of `feed P S N` are for `zk_run`, and are refused here.
 ///
 /// The words are those behind the program's name. The whole output is made in memory and then written, piece after
 /// piece; writing takes no memory. What is said of the input and the output is said where the source and the sink tell
@@ -84,7 +84,7 @@ fn plain<S: Source, K: Sink>(
         Some(Form::Trigger) => answer_trigger(alloc, source, sink),
         Some(Form::Event) => answer_event(alloc, source, sink),
         Some(Form::Soak(number)) => write_made(sink, soak_output(alloc, number)),
-        Some(Form::Run(_)) => unreachable!(),
+        Some(Form::Run(_) | Form::Feed(_)) => unreachable!(),
     }
 }
 

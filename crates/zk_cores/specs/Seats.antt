@@ -5,7 +5,7 @@ use Rattle.zk_kernel.specs.declared.caller.Caller.{Caller}
 use Rattle.zk_kernel.specs.Callers.{number_of, kernel_of, IsWhole}
 use Rattle.zk_cells.specs.Kernels.{Shared}
 use Rattle.zk_pool.specs.declared.pool.Pool.{Pool}
-use Rattle.zk_pool.specs.Keepers.{Keeps, keeper_aside}
+use Rattle.zk_pool.specs.Keepers.{Keeps, Carries, keeper_aside}
 use Rattle.zk_cores.specs.declared.seat.Seat.{Seat}
 use Rattle.zk_cores.specs.declared.cores.Core.{Core}
 
@@ -27,6 +27,10 @@ IsSeated seat = IsWhole (seat_caller seat)
 -- a core of this pool, whose hand holds just those whom it keeps
 abbrev pub IsAtWork : Pool Seat Shared → Core → Type 0
 IsAtWork p core = Keeps seat_number seat_kernel IsSeated p core.keeper
+
+-- a core of this pool, whose hand holds one player more
+abbrev pub IsCarrying : Pool Seat Shared → Core → ℕ → Type 0
+IsCarrying p core one = Carries seat_number seat_kernel IsSeated p core.keeper one
 
 -- it keeps nobody
 pub record IsReady (p : Pool Seat Shared) (core : Core) : Type 0 where

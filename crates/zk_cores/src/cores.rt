@@ -13,7 +13,7 @@ use zk_pool::{Hand, Keeper, Pool};
 pub struct Core {
     /// Its number, from 0.
     pub number: u32,
-    /// By which it takes callers out of the pool. It keeps those that are through until its end.
+    /// By which it takes callers out of the pool. It keeps those that wait and those that are through.
     pub keeper: Keeper<Seat>,
     /// How often it has passed the gate. Each core counts on a line of its own.
     pub passes: CachePadded<u64>,

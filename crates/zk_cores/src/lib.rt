@@ -1,5 +1,5 @@
-//! A scenario on several cores: its callers in a pool, out of which each core takes one for each step, and what is left played
-//! on by one thread until no player can go on.
+//! A scenario on several cores: its callers in a pool, out of which each core takes one for some steps and keeps it while it waits,
+//! and what is left played on by one thread until no player can go on.
 #![tactic(auto)]
 
 mod barrier;

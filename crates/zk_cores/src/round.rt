@@ -1,6 +1,7 @@
 ghost use Rattle.std.specs.Prelude.{◌≡◌, ◌<◌, Some, All, length, vec_len};
 ghost use Rattle.zk_pool.specs.Hands.{pool_home};
-ghost use Rattle.zk_cores.specs.Seats.{seat_number, seat_kernel, IsSeated, IsAtWork, IsReady};
+ghost use Rattle.zk_pool.specs.Rule.{Suits};
+ghost use Rattle.zk_cores.specs.Seats.{seat_number, seat_kernel, IsSeated, IsAtWork, IsCarrying, IsReady};
 
 use crate::barrier::Barrier;
 use crate::cores::Core;
@@ -15,6 +16,9 @@ use zk_worker::Stepped;
 
 /// A core goes on after so many rounds in a row in which it made no step, and ends with the next such one.
 const STILL_ROUNDS: u32 = 63;
+
+/// How many steps a caller makes at most before another one is taken.
+const STEPS: u32 = 8;
 
 /// How often its processor pauses after such a round, times their number so far.
 const PAUSES: u32 = 20;
@@ -46,33 +50,58 @@ fn play_seat<R: Wait, G: Gate>(
     Ok(stepped == Stepped::Did)
 }
 
-/// Takes a caller out of the pool, plays it once, and gives it back, whatever came of it: whether it made a step. One that is
-/// through it keeps, so that no core takes it in vain.
-fn play_turn<R: Wait, G: Gate>(
+/// Plays the caller in a seat up to `STEPS` times, as long as it makes steps: whether it made one.
+fn play_on<R: Wait, G: Gate>(
+    rt: &R,
+    kernel: &Kernel,
+    gate: &G,
+    core: &mut Core,
+    seat: &mut Seat,
+) -> Result<bool, NoMemory>
+    requires kernel { seat_kernel seat.old ≡ kernel.now }
+    requires seated { IsSeated seat.old }
+    ensures number { seat_number seat.new ≡ seat_number seat.old }
+    ensures kernel { seat_kernel seat.new ≡ seat_kernel seat.old }
+    ensures seated { IsSeated seat.new }
+    ensures keeper { core.new.keeper ≡ core.old.keeper }
+{
+    let mut moved = false;
+    for _ in 0..STEPS {
+        if !play_seat(rt, kernel, gate, core, seat)? {
+            break;
+        }
+        moved = true;
+    }
+    Ok(moved)
+}
+
+/// Plays a caller in the core's hand: whether it made a step. One that may go on goes back into the pool, where any core may take
+/// it. One that waits, or is through, this core keeps, so that no core takes it in vain.
+fn play_held<R: Wait, G: Gate>(
     rt: &R,
     kernel: &Kernel,
     pool: &Pool<Seat>,
     gate: &G,
     core: &mut Core,
+    seat: Seat,
 ) -> Result<bool, NoMemory>
     requires home { pool_home seat_kernel pool.now ≡ Some kernel.now }
-    requires at_work { IsAtWork pool.now core.old }
+    requires carries { IsCarrying pool.now core.old (seat_number seat) }
+    requires suits { Suits seat_number seat_kernel IsSeated (pool_home seat_kernel pool.now) seat }
     ensures at_work { IsAtWork pool.now core.new }
 {
-    let Some(mut seat) = core.keeper.take(rt, pool) else {
-        return Ok(false);
-    };
-    let made = play_seat(rt, kernel, gate, core, &mut seat);
-    if seat.is_through() {
-        core.keeper.keep(pool, seat);
-    } else {
+    let mut seat = seat;
+    let made = play_on(rt, kernel, gate, core, &mut seat);
+    if seat.goes_on() {
         core.keeper.give(rt, pool, seat);
+    } else {
+        core.keeper.keep(pool, seat);
     }
     made
 }
 
-/// Takes as many callers as there are players, one after the other: whether one of them made a step.
-fn play_round<R: Wait, G: Gate>(
+/// Plays each caller that the core keeps and that has news: whether one of them made a step.
+fn play_kept<R: Wait, G: Gate>(
     rt: &R,
     kernel: &Kernel,
     pool: &Pool<Seat>,
@@ -84,8 +113,40 @@ fn play_round<R: Wait, G: Gate>(
     ensures at_work { IsAtWork pool.now core.new }
 {
     let mut moved = false;
+    let mut at = 0;
+    for _ in 0..core.keeper.kept() {
+        if at >= core.keeper.kept() {
+            break;
+        }
+        if core.keeper.kept_at(at).has_news(kernel) {
+            let seat = core.keeper.recall(pool, at);
+            moved |= play_held(rt, kernel, pool, gate, core, seat)?;
+        } else {
+            at += 1;
+        }
+    }
+    Ok(moved)
+}
+
+/// Plays those whom the core keeps and who have news, and then takes as many callers as there are players, one after the other,
+/// or all that are in the pool: whether one of them made a step.
+fn play_round<R: Wait, G: Gate>(
+    rt: &R,
+    kernel: &Kernel,
+    pool: &Pool<Seat>,
+    gate: &G,
+    core: &mut Core,
+) -> Result<bool, NoMemory>
+    requires home { pool_home seat_kernel pool.now ≡ Some kernel.now }
+    requires at_work { IsAtWork pool.now core.old }
+    ensures at_work { IsAtWork pool.now core.new }
+{
+    let mut moved = play_kept(rt, kernel, pool, gate, core)?;
     for _ in 0..kernel.scenario().players() {
-        moved |= play_turn(rt, kernel, pool, gate, core)?;
+        let Some(seat) = core.keeper.take(rt, pool) else {
+            break;
+        };
+        moved |= play_held(rt, kernel, pool, gate, core, seat)?;
     }
     Ok(moved)
 }

@@ -49,8 +49,8 @@ fn play_callers<R: Threads + Wait + Sync, G: Gate + Sync>(
     unseat_all(alloc, kernel, seats)
 }
 
-/// Plays a scenario on so many cores, from 1: each takes a player out of a pool that all share, makes one step with it, and gives
-/// it back. Once none of them gets further, one thread plays on until no player has a possible step.
+/// Plays a scenario on so many cores, from 1: each takes a player out of a pool that all share, makes some steps with it, and gives
+/// it back, or keeps it as long as it waits. Once none of them gets further, one thread plays on until no player has a possible step.
 ///
 /// Nothing says which lawful trace it makes, nor that it returns, since a core may wait for a turn.
 pub fn play<R: Threads + Wait + Sync, G: Gate + Sync>(

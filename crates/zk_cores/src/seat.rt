@@ -59,9 +59,14 @@ impl Seat {
         self.last == Stepped::NotYet && !self.caller.as_ref().has_news(kernel)
     }
 
-    /// Whether its caller is through: it makes no further step.
-    pub fn is_through(&self) -> bool {
-        self.last == Stepped::Ended || self.last == Stepped::Spent
+    /// Whether it made its last step, or hasn't been asked yet.
+    pub fn goes_on(&self) -> bool {
+        self.last == Stepped::Did
+    }
+
+    /// Whether it waits and has news: a step may be possible.
+    pub fn has_news(&self, kernel: &Kernel) -> bool {
+        self.last == Stepped::NotYet && self.caller.as_ref().has_news(kernel)
     }
 
     /// Makes one step with its caller.

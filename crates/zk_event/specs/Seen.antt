@@ -8,8 +8,8 @@ use Rattle.zk_event.specs.declared.service.Event.{Event}
 
 -- the state that the service began in
 abbrev pub event_start : Event → model.Event
-event_start s = s.inner.start
+event_start s = s.inner.value.start
 
 -- all that was done at it, oldest first
 abbrev pub event_history : Event → List (Entry EventOp EventReply)
-event_history s = s.inner.history
+event_history s = s.inner.value.history

@@ -1,4 +1,4 @@
-ghost use Rattle.std.specs.Prelude.{◌≡◌, []};
+ghost use Rattle.std.specs.Prelude.{◌≡◌, [], IfOk};
 ghost use Rattle.zk_event.specs.Event.{new_event};
 ghost use Rattle.zk_event.specs.Seen.{event_start, event_history};
 
@@ -11,21 +11,21 @@ use zk_base::{Entry, NoMemory, Recorded, Service, Who};
 /// An event object, with its history. Zephyr's `k_event`.
 #[derive(Drop)]
 pub struct Event {
-    inner: Recorded<EventEngine>,
+    // It lies apart, so that a turn of a cell moves eight bytes.
+    inner: Box<Recorded<EventEngine>>,
 }
 
 impl Event {
-    /// An event object before the first entry: it has no bit. Zephyr's `k_event_init`. It takes no memory.
-    pub fn new(alloc: Global) -> Event
-        ensures start { event_start result ≡ new_event }
-        ensures history { event_history result ≡ [] }
+    /// An event object before the first entry: it has no bit. Zephyr's `k_event_init`.
+    pub fn new(alloc: Global) -> Result<Event, NoMemory>
+        ensures start { IfOk result (λ e. event_start e ≡ new_event) }
+        ensures history { IfOk result (λ e. event_history e ≡ []) }
     {
         let state = EventState::new(alloc);
         let start = Snapshot::of(&state);
         let engine = EventEngine::new(state.into_store());
-        Event {
-            inner: Recorded::new(alloc, start, engine),
-        }
+        let inner = Box::new(alloc, Recorded::new(alloc, start, engine))?;
+        Ok(Event { inner })
     }
 }
 
@@ -46,7 +46,7 @@ impl Service for Event {
 
     ghost history = { event_history };
 
-    ghost room = { λ s. s.inner.room };
+    ghost room = { λ s. s.inner.value.room };
 
     ghost closes = { λ s who op. event_closes op };
 
@@ -59,7 +59,7 @@ impl Service for Event {
 
     const WORDS: u32 = 1;
 
-    ghost touched = { λ s. s.inner.touched };
+    ghost touched = { λ s. s.inner.value.touched };
 
     fn act(&mut self, who: Who, step: u32, op: EventOp) -> Result<Option<EventReply>, NoMemory> {
         self.inner.act(who, step, op)
@@ -91,6 +91,6 @@ impl Service for Event {
 
     fn into_history(self) -> Vec<Entry<EventOp, EventReply>> {
         let Event { inner } = self;
-        inner.into_history()
+        Box::into_inner(inner).into_history()
     }
 }

@@ -11,5 +11,5 @@ use zk_side::side_output;
 pub fn event_output(alloc: Global, input: &[u8]) -> Result<(Vec<u8>, Status), NoMemory>
     ensures { IfOk result (λ made. IsEventOutput made.1 input.now made.0.items) }
 {
-    side_output::<EventSide>(alloc, Event::new(alloc), input)
+    side_output::<EventSide>(alloc, Event::new(alloc)?, input)
 }

@@ -2,6 +2,7 @@ pub mod AttemptsKept
 pub mod CallsKept
 pub mod CheckAnswers
 pub mod ChecksKept
+pub mod OnCores
 pub mod Outcomes
 pub mod Pieces
 pub mod PlaysKept

@@ -29,13 +29,15 @@ use Rattle.zk_side.specs.Script.{script_of}
 use Rattle.zk_trigger_script.specs.Output.{trigger_stage}
 use Rattle.zk_event_script.specs.Output.{event_stage}
 use Rattle.zk_forms.specs.declared.form.Form.{Form}
-use Rattle.zk_forms.specs.declared.form.Form.TheVariants.{Replay, Check, Migrate, Trigger, Event, Soak, Run}
+use Rattle.zk_forms.specs.declared.form.Form.TheVariants.{Replay, Check, Migrate, Trigger, Event, Soak, Run, Feed}
 use Rattle.zk_forms.specs.declared.form.TheConstants.{LONGEST_TRACE, MOST_SOAK}
 use Rattle.zk_forms.specs.Input.{HasRead, GaveAtMost}
 use Rattle.zk_forms.specs.Output.{AppendsFront}
 use Rattle.zk_base.specs.declared.errors.NoMemory.{NoMemory as Want}
 use Rattle.zk_forms.specs.Answer.{IsPrinted, IsRun, IsRefusal, IsOutput, status_of}
 use Rattle.zk_forms.specs.CheckAnswer.{IsRefusedSo, too_long, no_scenario, no_trace, IsCheckOutput, IsMigrateOutput}
+use Rattle.zk_feed.specs.declared.size.FeedSize.{FeedSize}
+use Rattle.zk_forms.specs.FeedAnswer.{IsFeedAnswer}
 use Rattle.zk_forms.specs.SoakAnswer.{IsSoakOutput}
 use Rattle.zk_forms.specs.Top.{form_of, limit_of, Reads, input_of, HasGiven, IsOutputOf, words_refused, Prints, PrintsFront, HasReadAll, IsAnswer, HasInput, MayRun, MayEnd, Answered, answered, cut_short, unmade, most_taken, CallOutcome, no_form, no_form_cut, unread, no_memory, printed, cut}
 use Rattle.zk_forms.proofs.SideOutcomes.{side-front, IsAnswer-side}
@@ -161,6 +163,7 @@ IsOutput-front Migrate reads status n input output is out = migrate-front status
 IsOutput-front Trigger reads status n input output is out = side-front trigger_stage status n input output is out
 IsOutput-front Event reads status n input output is out = side-front event_stage status n input output is out
 IsOutput-front (Soak number) reads status n input output is out = absurd reads
+IsOutput-front (Feed size) reads status n input output is out = absurd reads
 
 -- a status that has an output of a check is one that prints
 IsAnswer-check : (status : Status) (input output : List ℕ) → IsCheckOutput status input output → IsAnswer status
@@ -198,6 +201,18 @@ IsAnswer-soak number WriteFault output is = absurd is
 IsAnswer-soak number NoMemory output is = absurd is
 IsAnswer-soak number Unlawful output is = absurd is
 
+-- and of a feed
+IsAnswer-feed : (size : FeedSize) (status : Status) (output : List ℕ) → IsFeedAnswer size status output → IsAnswer status
+IsAnswer-feed size Success output is = tt
+IsAnswer-feed size Stuck output is = absurd is
+IsAnswer-feed size Spent output is = absurd is
+IsAnswer-feed size Refused output is = absurd is
+IsAnswer-feed size Words output is = absurd is
+IsAnswer-feed size ReadFault output is = absurd is
+IsAnswer-feed size WriteFault output is = absurd is
+IsAnswer-feed size NoMemory output is = absurd is
+IsAnswer-feed size Unlawful output is = absurd is
+
 IsAnswer-of : (form : Form) (status : Status) (input output : List ℕ) → IsOutputOf form status input output → IsAnswer status
 IsAnswer-of Replay status input output is = IsAnswer-output IsReplay status input output is
 IsAnswer-of (Run cores) status input output is = IsAnswer-output IsLawful status input output is
@@ -206,6 +221,7 @@ IsAnswer-of Migrate status input output is = IsAnswer-migrate status input outpu
 IsAnswer-of Trigger status input output is = IsAnswer-side trigger_stage (script_of trigger_stage.op_of input) output status is
 IsAnswer-of Event status input output is = IsAnswer-side event_stage (script_of event_stage.op_of input) output status is
 IsAnswer-of (Soak number) status input output is = IsAnswer-soak number status output is
+IsAnswer-of (Feed size) status input output is = IsAnswer-feed size status output is
 
 given : (many : ℕ) (left left' : Option (List ℕ)) (read : List ℕ) → HasRead many left left' read → HasGiven (many + 1) left left'
 given many None left' read has = tt
@@ -220,6 +236,7 @@ HasReadAll-read Trigger reads left left' read has = given (limit_of Trigger) lef
 HasReadAll-read Event reads left left' read has = given (limit_of Event) left left' read has
 HasReadAll-read (Run cores) reads left left' read has = given (limit_of (Run cores)) left left' read has
 HasReadAll-read (Soak number) reads left left' read has = absurd reads
+HasReadAll-read (Feed size) reads left left' read has = absurd reads
 
 -- a form that reads has what is left as its input
 input-left : (form : Form) → Reads form → (left : Option (List ℕ)) → input_of form left ≡ left
@@ -230,6 +247,7 @@ input-left Trigger reads left = refl
 input-left Event reads left = refl
 input-left (Run cores) reads left = refl
 input-left (Soak number) reads left = absurd reads
+input-left (Feed size) reads left = absurd reads
 
 Prints-read : (form : Form) → Reads form → (left left' old new : Option (List ℕ)) (read : List ℕ) (status : Status) (output : List ℕ) →
     HasRead (limit_of form) left left' read → IsOutputOf form status read output → Appends old new output → Prints left old new (IsOutputOf form status)
@@ -266,6 +284,15 @@ Went-soaked wanted left old new reads writes writes' status number input asked (
 Went-soaked wanted left old new reads writes writes' status number input asked (cut_short status' output is wrote rose) =
     cut (Soak number) asked refl (status', output, is, wrote) rose
 Went-soaked wanted left old new reads writes writes' status number input asked (unmade keeps) = no_memory (Soak number) asked keeps
+
+-- a feed that was answered
+pub Went-fed : (wanted : Option Form) (left old new : Option (List ℕ)) (reads writes writes' : ℕ) (status : Status) (size : FeedSize) (input : List ℕ) →
+    wanted ≡ Some (Feed size) → Answered (Feed size) input old new writes writes' status → CallOutcome wanted left left old new reads reads writes writes' status
+Went-fed wanted left old new reads writes writes' status size input asked (answered status' output is wrote) =
+    printed (Feed size) status' asked (IsAnswer-feed size status' output is) refl (output, is, wrote)
+Went-fed wanted left old new reads writes writes' status size input asked (cut_short status' output is wrote rose) =
+    cut (Feed size) asked refl (status', output, is, wrote) rose
+Went-fed wanted left old new reads writes writes' status size input asked (unmade keeps) = no_memory (Feed size) asked keeps
 
 -- words that are no form
 pub Went-refused : (wanted : Option Form) (left left' old new : Option (List ℕ)) (reads reads' writes writes' : ℕ) (status : Status) →
@@ -490,6 +517,15 @@ MayEnd-output (Soak number) ReadFault input output is = absurd is
 MayEnd-output (Soak number) WriteFault input output is = absurd is
 MayEnd-output (Soak number) NoMemory input output is = absurd is
 MayEnd-output (Soak number) Unlawful input output is = absurd is
+MayEnd-output (Feed size) Success input output is = tt
+MayEnd-output (Feed size) Stuck input output is = absurd is
+MayEnd-output (Feed size) Spent input output is = absurd is
+MayEnd-output (Feed size) Refused input output is = absurd is
+MayEnd-output (Feed size) Words input output is = absurd is
+MayEnd-output (Feed size) ReadFault input output is = absurd is
+MayEnd-output (Feed size) WriteFault input output is = absurd is
+MayEnd-output (Feed size) NoMemory input output is = absurd is
+MayEnd-output (Feed size) Unlawful input output is = absurd is
 
 MayEnd-always : (form : Form) (status : Status) → ((input : List ℕ) → MayEnd form input status) → (left : Option (List ℕ)) → IfSome left (λ input. MayEnd form input status)
 MayEnd-always form status may None = tt
@@ -507,6 +543,7 @@ may-unread Trigger does input = tt
 may-unread Event does input = tt
 may-unread (Run cores) does input = tt
 may-unread (Soak number) does input = absurd does
+may-unread (Feed size) does input = absurd does
 
 may-want : (form : Form) (input : List ℕ) → MayEnd form input NoMemory
 may-want Replay input = tt
@@ -516,6 +553,7 @@ may-want Trigger input = tt
 may-want Event input = tt
 may-want (Run cores) input = tt
 may-want (Soak number) input = tt
+may-want (Feed size) input = tt
 
 may-cut : (form : Form) (input : List ℕ) → MayEnd form input WriteFault
 may-cut Replay input = tt
@@ -525,6 +563,7 @@ may-cut Trigger input = tt
 may-cut Event input = tt
 may-cut (Run cores) input = tt
 may-cut (Soak number) input = tt
+may-cut (Feed size) input = tt
 
 pub Went-complete : (wanted : Option Form) (left left' old new : Option (List ℕ)) (reads reads' writes writes' : ℕ) (form : Form) (status : Status) →
     CallOutcome wanted left left' old new reads reads' writes writes' status → wanted ≡ Some form → IfSome (input_of form left) (λ input. MayEnd form input status)

@@ -2,6 +2,7 @@ pub mod Answer
 pub mod Attempts
 pub mod CallsMade
 pub mod CheckAnswer
+pub mod FeedAnswer
 pub mod Input
 pub mod Moments
 pub mod Output

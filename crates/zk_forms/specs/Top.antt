@@ -1,4 +1,4 @@
-use Rattle.std.specs.Prelude.{◌≡◌, ℕ, ◌+◌, Bool, false, if◌then◌else◌, Option, Some, None, Result, Ok, Err, List, [], ◌∷◌, drop, codes, option_map, IfSome, ⊤}
+use Rattle.std.specs.Prelude.{◌≡◌, ℕ, ◌+◌, ◌||◌, Bool, false, if◌then◌else◌, Option, Some, None, Result, Ok, Err, List, [], ◌∷◌, drop, codes, option_and_then, option_map, IfSome, ⊤}
 use Rattle.std.specs.Str.{bytes_eq}
 use Rattle.std.specs.Io.KnownBytes.{Appends, Keeps}
 use Rattle.zk_base.specs.Causes.{Rose}
@@ -16,16 +16,19 @@ use Rattle.zk_trace.specs.declared.trace.Trace.{Trace}
 use Rattle.zk_trace.specs.Lawful.{IsLawful}
 use Rattle.zk_replay.specs.Replay.{IsReplay}
 use Rattle.zk_cores.specs.declared.run.TheConstants.{MOST_CORES}
+use Rattle.zk_feed.specs.declared.size.FeedSize.{FeedSize}
+use Rattle.zk_feed.specs.declared.size.TheConstants.{MOST_MESSAGES, MOST_PUBLISHERS, MOST_SUBSCRIBERS}
 use Rattle.zk_forms.specs.declared.form.Form.{Form}
 use Rattle.zk_side.specs.declared.limits.TheConstants.{LONGEST_SIDE_SCRIPT}
 use Rattle.zk_side.specs.Output.{side_output}
 use Rattle.zk_trigger_script.specs.Output.{trigger_stage, IsTriggerOutput}
 use Rattle.zk_event_script.specs.Output.{event_stage, IsEventOutput}
-use Rattle.zk_forms.specs.declared.form.Form.TheVariants.{Replay, Check, Migrate, Trigger, Event, Soak, Run}
+use Rattle.zk_forms.specs.declared.form.Form.TheVariants.{Replay, Check, Migrate, Trigger, Event, Soak, Run, Feed}
 use Rattle.zk_forms.specs.declared.form.TheConstants.{LONGEST_TRACE, MOST_SOAK}
 use Rattle.zk_forms.specs.Output.{AppendsFront}
 use Rattle.zk_forms.specs.Answer.{IsOutput}
 use Rattle.zk_forms.specs.CheckAnswer.{IsTraceOf, IsCheckOutput, IsMigrateOutput}
+use Rattle.zk_forms.specs.FeedAnswer.{IsFeedAnswer}
 use Rattle.zk_forms.specs.SoakAnswer.{IsSoakOutput}
 
 -- the form on one thread that the words ask for, if they are those of one: the word `replay` alone, or `check`, or `migrate`, or
@@ -41,16 +44,25 @@ form_of (word ∷ number ∷ []) =
     if bytes_eq word (codes "soak") then option_map Soak (number_in 0 MOST_SOAK number) else None
 form_of words = None
 
--- the form on cores that the words ask for, if they are those of it: the word `run` and how many cores
+-- how large a feed three words ask for: how many publishers, subscribers and messages
+abbrev pub feed_size : List ℕ → List ℕ → List ℕ → Option FeedSize
+feed_size publishers subscribers messages =
+    option_and_then (λ p. option_and_then (λ s. option_map (λ n. record { publishers = p; subscribers = s; messages = n })
+    (number_in 1 MOST_MESSAGES messages)) (number_in 1 MOST_SUBSCRIBERS subscribers)) (number_in 1 MOST_PUBLISHERS publishers)
+
+-- the form on cores that the words ask for, if they are those of one: the word `run` and how many cores, or `feed` and how
+-- large it is
 abbrev pub cores_form_of : List (List ℕ) → Option Form
 cores_form_of (word ∷ number ∷ []) =
     if bytes_eq word (codes "run") then option_map Run (number_in 1 MOST_CORES number) else None
+cores_form_of (word ∷ publishers ∷ subscribers ∷ messages ∷ []) =
+    if bytes_eq word (codes "feed") then option_map Feed (feed_size publishers subscribers messages) else None
 cores_form_of words = None
 
--- whether the words need cores: where the first is `run`
+-- whether the words need cores: where the first is `run` or `feed`
 abbrev pub needs_cores : List (List ℕ) → Bool
 needs_cores [] = false
-needs_cores (word ∷ words) = bytes_eq word (codes "run")
+needs_cores (word ∷ words) = bytes_eq word (codes "run") || bytes_eq word (codes "feed")
 
 -- whether a form reads the input
 abbrev pub Reads : Form → Type 0
@@ -61,6 +73,7 @@ Reads Trigger = Unit {0}
 Reads Event = Unit {0}
 Reads (Run cores) = Unit {0}
 Reads (Soak number) = ⊥
+Reads (Feed size) = ⊥
 
 -- the input of a form: what the source has left, and nothing where none is read
 abbrev pub input_of : Form → Option (List ℕ) → Option (List ℕ)
@@ -71,6 +84,7 @@ input_of Trigger left = left
 input_of Event left = left
 input_of (Run cores) left = left
 input_of (Soak number) left = Some []
+input_of (Feed size) left = Some []
 
 -- the longest input of a form
 abbrev pub limit_of : Form → ℕ
@@ -81,6 +95,7 @@ limit_of Trigger = LONGEST_SIDE_SCRIPT
 limit_of Event = LONGEST_SIDE_SCRIPT
 limit_of (Run cores) = LONGEST_SCENARIO
 limit_of (Soak number) = 0
+limit_of (Feed size) = 0
 
 -- how many bytes are taken of the source for a form, at the most: one above its limit, and none where it reads nothing
 abbrev pub most_taken : Option Form → ℕ
@@ -92,6 +107,7 @@ most_taken (Some Trigger) = LONGEST_SIDE_SCRIPT + 1
 most_taken (Some Event) = LONGEST_SIDE_SCRIPT + 1
 most_taken (Some (Run cores)) = LONGEST_SCENARIO + 1
 most_taken (Some (Soak number)) = 0
+most_taken (Some (Feed size)) = 0
 
 -- the whole output of a form that goes with a status, for an input: of `replay` that of the round robin run, of `run` that of a
 -- lawful one
@@ -103,6 +119,7 @@ IsOutputOf Trigger status input output = IsTriggerOutput status input output
 IsOutputOf Event status input output = IsEventOutput status input output
 IsOutputOf (Run cores) status input output = IsOutput IsLawful status input output
 IsOutputOf (Soak number) status input output = IsSoakOutput number status output
+IsOutputOf (Feed size) status input output = IsFeedAnswer size status output
 
 -- what is printed where the words are no form
 abbrev pub words_refused : List ℕ
@@ -134,6 +151,7 @@ HasReadAll Trigger old new = HasGiven (limit_of Trigger + 1) old new
 HasReadAll Event old new = HasGiven (limit_of Event + 1) old new
 HasReadAll (Run cores) old new = HasGiven (limit_of (Run cores) + 1) old new
 HasReadAll (Soak number) old new = new ≡ old
+HasReadAll (Feed size) old new = new ≡ old
 
 -- the statuses of calls that printed their whole output for an input
 abbrev pub IsAnswer : Status → Type 0
@@ -189,6 +207,11 @@ MaySoak Stuck = Unit {0}
 MaySoak Spent = Unit {0}
 MaySoak status = ⊥
 
+-- the status of a feed
+abbrev pub MayFeed : Status → Type 0
+MayFeed Success = Unit {0}
+MayFeed status = ⊥
+
 -- the statuses that can come for the input of a form: those of its answers, the faults and want of memory
 abbrev pub MayEnd : Form → List ℕ → Status → Type 0
 MayEnd form input ReadFault = Reads form
@@ -201,6 +224,7 @@ MayEnd Trigger input status = MayTrigger input status
 MayEnd Event input status = MayEvent input status
 MayEnd (Run cores) input status = MayRun (scenario_of input) status
 MayEnd (Soak number) input status = MaySoak status
+MayEnd (Feed size) input status = MayFeed status
 
 -- how the output for an input went to the sink
 pub data Answered (form : Form) (input : List ℕ) (old new : Option (List ℕ)) (faults faults' : ℕ)

@@ -1,9 +1,9 @@
 ghost use Rattle.std.specs.Prelude.{◌≡◌, map, option_map, string_bytes};
 ghost use Rattle.zk_words.specs.Numbers.{number_in};
-ghost use Rattle.zk_forms.specs.declared.form.Form.TheVariants.{Soak, Run};
-ghost use Rattle.zk_forms.specs.Top.{form_of, cores_form_of, needs_cores, limit_of};
+ghost use Rattle.zk_forms.specs.declared.form.Form.TheVariants.{Soak};
+ghost use Rattle.zk_forms.specs.Top.{form_of, limit_of};
 
-use zk_cores::MOST_CORES;
+use zk_feed::FeedSize;
 use zk_scenario::LONGEST_SCENARIO;
 use zk_side::LONGEST_SIDE_SCRIPT;
 use zk_words::number_in;
@@ -25,6 +25,9 @@ pub enum Form {
     Soak(u32),
     /// `run N`: reads a scenario, plays it on that many cores, from 1 to 16, and prints its text and the trace.
     Run(u32),
+    /// `feed P S N`: P publishers beside each other send N messages each to S subscribers, and what each of these took is
+    /// printed. It reads nothing.
+    Feed(FeedSize),
 }
 
 /// The greatest number of a generated scenario.
@@ -51,32 +54,10 @@ fn soak_of(number: &[u8]) -> Option<Form>
     Some(Form::Soak(number_in(0, MOST_SOAK, number)?))
 }
 
-/// How many cores these words ask for, if they are those of `run`.
-pub fn cores_of(words: &[String]) -> Option<u32>
-    ensures { option_map Run result ≡ cores_form_of (map string_bytes words.now) }
-{
-    match words {
-        [word, number] if word.as_bytes() == b"run".as_slice() => {
-            number_in(1, MOST_CORES, number.as_bytes())
-        }
-        _ => None,
-    }
-}
-
-/// Whether these words are for `zk_run`, which needs cores: where the first is `run`. All others are for `zk_plain`.
-pub fn needs_cores(words: &[String]) -> bool
-    ensures { result ≡ needs_cores (map string_bytes words.now) }
-{
-    match words {
-        [word, ..] => word.as_bytes() == b"run".as_slice(),
-        _ => false,
-    }
-}
-
 /// The longest input of `check` and of `migrate`, in bytes.
 pub const LONGEST_TRACE: usize = 536_870_912;
 
-/// The longest input of a form, in bytes. `soak` reads none.
+/// The longest input of a form, in bytes. `soak` and `feed` read none.
 pub fn limit_of(form: Form) -> usize
     ensures { result ≡ limit_of form }
 {
@@ -88,5 +69,6 @@ pub fn limit_of(form: Form) -> usize
         Form::Event => LONGEST_SIDE_SCRIPT,
         Form::Soak(_) => 0,
         Form::Run(_) => LONGEST_SCENARIO,
+        Form::Feed(_) => 0,
     }
 }

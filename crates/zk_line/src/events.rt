@@ -26,7 +26,8 @@ pub enum Event {
 pub struct Events {
     // The events, then `Ignore`.
     events: [Event; MOST_EVENTS],
-    len: usize,
+    // How many of them are those of the poll.
+    len: u8,
 }
 
 impl Model for Events {
@@ -61,7 +62,7 @@ impl Events {
         kept[..events.len()].copy_from_slice(events);
         Some(Events {
             events: kept,
-            len: events.len(),
+            len: events.len() as u8,
         })
     }
 
@@ -70,7 +71,7 @@ impl Events {
         ensures all { result.now ≡ self.now }
         ensures few { is_few self.now ≡ true }
     {
-        &self.events[..self.len]
+        &self.events[..self.len as usize]
     }
 }
 

@@ -1,4 +1,3 @@
--- Inner: no contract of a top call is made of this file.
 -- Notes of a publisher, and the notes of its messages in order.
 use Rattle.std.specs.Prelude.{ℕ, zero, suc, ◌==◌, List, [], ◌∷◌, ◌++◌, filter}
 use Rattle.zk_msgsub.specs.declared.note.Note.{Note}

@@ -223,11 +223,11 @@ moved-bit word bit i =
     ∙ ap (λ (x : ℕ). eqb (x % 2) 1) (shr-shr word bit i)
     ∙ sym (has-at word (bit + i))
 
--- so many bits from one on are set, and no more
-pub record AreOnes (word bit count : ℕ) : Type 0 where
+-- so many bits from one on are set, or none of them is, and the next one isn't so
+pub record AreBits (so : Bool) (word bit count : ℕ) : Type 0 where
   pub within : bit + count ≤ word_bits
-  pub ones : (other : ℕ) → bit ≤ other → other < bit + count → has_bit word other ≡ true
-  pub end : bit + count < word_bits → has_bit word (bit + count) ≡ false
+  pub all : (other : ℕ) → bit ≤ other → other < bit + count → has_bit word other ≡ so
+  pub end : bit + count < word_bits → has_bit word (bit + count) ≡ not so
 
 -- a bit of a word's upper part
 bit-above : (word bit other : ℕ) → bit ≤ other → bit_at (word / 2 ^ bit) (other - bit) ≡ bit_at word other
@@ -242,10 +242,10 @@ isnt-set : (word bit : ℕ) → bit_at word bit ≡ 0 → has_bit word bit ≡ f
 isnt-set word bit isnt = has-at word bit ∙ ap (λ (x : ℕ). eqb x 1) isnt
 
 -- all of them are
-pub all-ones : (word bit : ℕ) → word < 2 ^ word_bits → bit < word_bits → word / 2 ^ bit ≡ 2 ^ word_bits - 1 → AreOnes word bit word_bits
+pub all-ones : (word bit : ℕ) → word < 2 ^ word_bits → bit < word_bits → word / 2 ^ bit ≡ 2 ^ word_bits - 1 → AreBits true word bit word_bits
 all-ones word bit small below all = record {
   within = omega (arith, lowest bit refl);
-  ones = λ other low high.
+  all = λ other low high.
       is-set word other (sym (bit-above word bit other low)
       ∙ ap (λ (x : ℕ). bit_at x (other - bit)) all ∙ bit_at_ones word_bits (other - bit) (omega (arith, lowest bit refl)));
   end = λ high. absurd (omega (arith, high));
@@ -261,10 +261,10 @@ all-ones word bit small below all = record {
 
 -- they end at the first that isn't
 pub some-ones : (word bit : ℕ) → word < 2 ^ word_bits → bit < word_bits → word / 2 ^ bit + 1 < 2 ^ word_bits →
-    AreOnes word bit (trailing_ones w64 (word / 2 ^ bit))
+    AreBits true word bit (trailing_ones w64 (word / 2 ^ bit))
 some-ones word bit small below most = record {
   within = by (cases_lt word_bits (bit + count));
-  ones = λ other low high. is-set word other (sym (bit-above word bit other low) ∙ it.2 (other - bit) (omega arith));
+  all = λ other low high. is-set word other (sym (bit-above word bit other low) ∙ it.2 (other - bit) (omega arith));
   end = λ high.
       let back : bit + count - bit ≡ count = omega arith in
       isnt-set word (bit + count) (sym (bit-above word bit (bit + count) (omega arith)) ∙ ap (bit_at (word / 2 ^ bit)) back ∙ it.1);
@@ -283,27 +283,48 @@ some-ones word bit small below most = record {
         absurd (omega (arith, one, none))
     by (inr within) = within
 
--- the players of a word, from one on: those of its ones are there
-pub follow-all : (words : List ℕ) (player count : ℕ) → player < most_players →
-    AreOnes (get_or words (player / word_bits) 0) (player % word_bits) count →
-    (other : ℕ) → player ≤ other → other < player + count → (ltb other most_players && has_player words other) ≡ true
-follow-all words player count small are other low high =
+-- what isn't so
+pub not-true : (b : Bool) → not b ≡ true → b ≡ false
+not-true true is = absurd (cc)
+not-true false is = refl
+
+pub not-false : (b : Bool) → not b ≡ false → b ≡ true
+not-false true is = refl
+not-false false is = absurd (cc)
+
+-- the bits of a word whose bits are all turned over
+pub turned-bit : (word bit : ℕ) → word < 2 ^ word_bits → bit < word_bits → has_bit (2 ^ word_bits - 1 - word) bit ≡ not (has_bit word bit)
+turned-bit word bit small below =
+    has-at (2 ^ word_bits - 1 - word) bit
+    ∙ ap (λ (x : ℕ). eqb x 1) (bit_at_not w64 word bit small below)
+    ∙ by (bit_at word bit) (bit_at-lt word bit)
+    ∙ ap not (sym (has-at word bit)) where
+      by : (x : ℕ) → x < 2 → eqb (1 - x) 1 ≡ not (eqb x 1)
+      by zero two = refl
+      by (suc zero) two = refl
+      by (suc (suc x)) two = absurd (omega arith)
+
+-- the players of a word, from one on, are there as its bits are
+pub follow-all : (so : Bool) (words : List ℕ) (player count : ℕ) → player < most_players →
+    AreBits so (get_or words (player / word_bits) 0) (player % word_bits) count →
+    (other : ℕ) → player ≤ other → other < player + count → (ltb other most_players && has_player words other) ≡ so
+follow-all so words player count small are other low high =
     let within = are.within in
     let place : other / word_bits ≡ player / word_bits = omega (arith, within) in
     let bit : other % word_bits ≡ player % word_bits + (other - player) = omega (arith, within) in
     let below : other < most_players = omega (arith, place) in
-    let one = are.ones (player % word_bits + (other - player)) (omega arith) (omega arith) in
+    let one = are.all (player % word_bits + (other - player)) (omega arith) (omega arith) in
     ap (λ (b : Bool). b && has_player words other) (lt-ltb other most_players below)
     ∙ ap (λ (at : ℕ). has_bit (get_or words at 0) (other % word_bits)) place
     ∙ ap (has_bit (get_or words (player / word_bits) 0)) bit ∙ one
 
 -- and the one behind them in that word isn't
-pub follow-end : (words : List ℕ) (player count : ℕ) →
-    AreOnes (get_or words (player / word_bits) 0) (player % word_bits) count →
-    (player + count) / word_bits ≡ player / word_bits → (ltb (player + count) most_players && has_player words (player + count)) ≡ false
-follow-end words player count are place =
+pub follow-end : (so : Bool) (words : List ℕ) (player count : ℕ) → player < most_players →
+    AreBits so (get_or words (player / word_bits) 0) (player % word_bits) count →
+    (player + count) / word_bits ≡ player / word_bits → (ltb (player + count) most_players && has_player words (player + count)) ≡ not so
+follow-end so words player count small are place =
     let bit : (player + count) % word_bits ≡ player % word_bits + count = omega (arith, place) in
-    let none : has_player words (player + count) ≡ false =
-    ap (λ (at : ℕ). has_bit (get_or words at 0) ((player + count) % word_bits)) place
-    ∙ ap (has_bit (get_or words (player / word_bits) 0)) bit ∙ are.end (omega (arith, place)) in
-    ap (λ (b : Bool). ltb (player + count) most_players && b) none ∙ and-false (ltb (player + count) most_players)
+    let below : player + count < most_players = omega (arith, place) in
+    ap (λ (b : Bool). b && has_player words (player + count)) (lt-ltb (player + count) most_players below)
+    ∙ ap (λ (at : ℕ). has_bit (get_or words at 0) ((player + count) % word_bits)) place
+    ∙ ap (has_bit (get_or words (player / word_bits) 0)) bit ∙ are.end (omega (arith, place))

@@ -56,3 +56,13 @@ pub fn ones_from(word: u64, bit: u32) -> u32
     }
     rest.trailing_ones()
 }
+
+/// How many bits from this one on aren't set: up to the first that is.
+pub fn zeros_from(word: u64, bit: u32) -> u32
+    requires { bit < word_bits }
+    ensures within { bit + result ≤ word_bits }
+    ensures zeros { (other : ℕ) → bit ≤ other → other < bit + result → has_bit word other ≡ false }
+    ensures end { bit + result < word_bits → has_bit word (bit + result) ≡ true }
+{
+    ones_from(!word, bit)
+}

@@ -2,7 +2,7 @@ ghost use Rattle.std.specs.Prelude.{◌≡◌, ℕ, ◌+◌, ◌/◌, ◌<◌, �
 ghost use Rattle.zk_base.specs.Limits.{most_players};
 ghost use Rattle.zk_player_set.specs.Players.{word_bits, has};
 
-use crate::bits::{WORD_BITS, has_bit, ones_from, with_bit, without_bit, without_bits};
+use crate::bits::{WORD_BITS, has_bit, ones_from, with_bit, without_bit, without_bits, zeros_from};
 use zk_base::MOST_PLAYERS;
 
 /// The words of a set of players: so many that each player of a scenario has a bit.
@@ -46,6 +46,19 @@ impl PlayerSet {
     {
         let word = self.words[(player / WORD_BITS) as usize];
         ones_from(word, player % WORD_BITS)
+    }
+
+    /// How many players follow each other that aren't in the set, from this one on. It counts no further than the word of 64
+    /// players in which this one is.
+    #[inline(always)]
+    pub fn absent_from(&self, player: u32) -> u32
+        requires { player < most_players }
+        ensures all { (other : ℕ) → player ≤ other → other < player + result → has self.now other ≡ false }
+        ensures end { (player + result) / word_bits ≡ player / word_bits → has self.now (player + result) ≡ true }
+        ensures few { result ≤ word_bits }
+    {
+        let word = self.words[(player / WORD_BITS) as usize];
+        zeros_from(word, player % WORD_BITS)
     }
 
     /// Takes one player more. One that a scenario can't have isn't taken.

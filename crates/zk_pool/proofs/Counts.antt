@@ -1,6 +1,8 @@
 -- How often numbers stand in lists.
-use Rattle.std.proofs.Common.{◌≡◌, ℕ, ◌+◌, ◌<◌, ◌==◌, true≢false, Option, Some, None, is_some, List, [], ◌∷◌, ◌++◌, length, find, refl, sym, ap, ◌∙◌, eqb-true, arith}
-use Rattle.std.proofs.lemmas.List.Sums.{sum_by-append, sum_by_push}
+use Rattle.std.proofs.Common.{◌≡◌, ℕ, ◌+◌, ◌<◌, ◌==◌, true≢false, Option, Some, None, is_some, List, [], ◌∷◌, ◌++◌, length, map, find, refl, sym, ap, ◌∙◌, eqb-true, arith}
+use Rattle.std.specs.List.{sum_by, sum}
+use Rattle.std.proofs.lemmas.List.Sums.{sum_by-append, sum_by_push, sum-map}
+use Rattle.std.proofs.lemmas.Simd.{map-map}
 use Rattle.zk_base.proofs.Firsts as firsts
 use Rattle.zk_pool.specs.Counts.{tally, without}
 
@@ -13,6 +15,11 @@ tally-append n ns ms = sum_by-append (equal n) ns ms
 
 pub tally-push : (n m : ℕ) (ns : List ℕ) → tally n (ns ++ m ∷ []) ≡ tally n ns + equal n m
 tally-push n m ns = sum_by_push (equal n) ns m
+
+-- the numbers of some things, counted by the things
+pub tally-map : {T : Type 0} (number : T → ℕ) (n : ℕ) (xs : List T) → tally n (map number xs) ≡ sum_by (λ x. equal n (number x)) xs
+tally-map number n xs =
+    sym (sum-map (equal n) (map number xs)) ∙ ap sum (map-map (equal n) number xs) ∙ sum-map (λ x. equal n (number x)) xs
 
 module _ (m : ℕ) (ns : List ℕ) (some_one : 0 < tally m ns) where
   found-as : (o : Option ℕ) → find (λ k. m == k) ns ≡ o → find (λ k. m == k) ns ≡ Some m

@@ -1,9 +1,13 @@
 -- What a keeper's hand holds after each of its calls.
-use Rattle.std.proofs.Common.{rules, Option, Some, None, MatchOption, IfSome, IfNone, ◌≡◌, ℕ, ◌+◌, ◌<◌, ◌≤◌, ◌==◌, true, [], ◌∷◌, ◌++◌, length, map, All, vec_capacity, sym, ap, subst, ◌∙◌, arith}
+use Rattle.std.proofs.Common.{rules, Option, Some, None, MatchOption, IfSome, IfNone, ◌≡◌, ℕ, ◌+◌, ◌-◌, ◌<◌, ◌≤◌, ◌==◌, true, [], ◌∷◌, ◌++◌, length, map, get_or, set, All, vec_capacity, sym, ap, subst, ◌∙◌, arith}
 use Rattle.std.proofs.Common.{Vec, Global}
 use Rattle.std.proofs.lemmas.List.{map-append}
 use Rattle.std.proofs.lemmas.List.{length-append}
-use Rattle.std.proofs.lemmas.List.Elements.{All-push}
+use Rattle.std.proofs.lemmas.List.{length-set, length-take-le}
+use Rattle.std.proofs.lemmas.List.Elements.{All-push, All-head, All-tail}
+use Rattle.std.proofs.lemmas.List.Sorted.{IsPermutation-swap_remove, All-permutation}
+use Rattle.std.proofs.lemmas.List.Sums.{sum_by-swap_remove}
+use Rattle.std.specs.List.{sum_by, swap_remove}
 use Rattle.zk_base.proofs.Firsts.{one_if}
 use Rattle.zk_pool.specs.declared.hand.Hand.{Hand}
 use Rattle.zk_pool.specs.declared.keeper.Keeper.{Keeper}
@@ -13,7 +17,7 @@ use Rattle.zk_pool.specs.Hands.{IsHandOf, hand_held, pool_home, pool_numbers}
 use Rattle.zk_pool.specs.Keepers.{Keeps, Carries}
 use Rattle.zk_pool.specs.Rule.{Suits}
 use Rattle.zk_pool.proofs.Gathering.{All-last}
-use Rattle.zk_pool.proofs.Counts.{equal, tally-append, tally-push, tally-without, length-without}
+use Rattle.zk_pool.proofs.Counts.{equal, tally-append, tally-map, tally-push, tally-without, length-without}
 
 -- a number is equal to itself
 equal-same : (m : ℕ) → equal m m ≡ 1
@@ -97,6 +101,36 @@ module _ {T H : Type 0} (number : T → ℕ) (home : T → H) (kept : T → Type
         room = omega arith;
         few = omega arith;
       }
+
+  -- an item that was kept at some place is taken up again
+  pub recalled : (aside : Vec T Global) (at : ℕ) (x : T) → Keeps number home kept p k → at < length k.aside.items → x ≡ get_or k.aside.items at x →
+      aside.items ≡ swap_remove k.aside.items at x → vec_capacity aside ≡ vec_capacity k.aside →
+      Carries number home kept p (record { hand = k.hand; aside = aside }) (number x) × Suit x
+  recalled aside at x keeps within is less same =
+      let olds = k.aside.items in
+      let both = All-permutation Suit olds (x ∷ swap_remove olds at x) (IsPermutation-swap_remove olds at x within is) keeps.suits in
+      let set_long = length-set olds at (get_or olds (length olds - 1) x) in
+      let long : length aside.items + 1 ≡ length olds =
+      omega (arith, ap length less ∙ length-take-le (length olds - 1) (set olds at (get_or olds (length olds - 1) x)) (omega (arith, set_long, within)), within) in
+      let count = keeps.count in
+      let room = keeps.room in
+      let few = keeps.few in (
+        record {
+          own = keeps.own;
+          held = λ n.
+              let sum = sum_by-swap_remove (λ y. equal n (number y)) olds at x within in
+              let last : equal n (number x) ≡ equal n (number (get_or olds at x)) = ap (λ y. equal n (number y)) is in
+              keeps.held n ∙ tally-map number n olds
+              ∙ (let new = tally-push n (number x) (map number aside.items) in
+              let were = tally-map number n aside.items ∙ ap (sum_by (λ y. equal n (number y))) less in
+              omega arith);
+          count = omega arith;
+          suits = subst (All Suit) (sym less) (All-tail Suit x (swap_remove olds at x) both);
+          room = omega arith;
+          few = omega arith;
+        },
+        All-head Suit x (swap_remove olds at x) both,
+      )
 
   -- a take that found nothing
   pub took-none : (h : Hand T H) (taken : Option T) → Keeps number home kept p k → IsHandOf number home p h →

@@ -1,4 +1,4 @@
-ghost use Rattle.std.specs.Prelude.{◌≡◌, ◌+◌, ◌≤◌, [], length, MatchOption, IfOk, IfSome, IfNone};
+ghost use Rattle.std.specs.Prelude.{◌≡◌, ◌+◌, ◌<◌, ◌≤◌, Some, [], length, slice_get, swap_remove, MatchOption, IfOk, IfSome, IfNone};
 ghost use Rattle.zk_pool.specs.Hands.{IsHandOf, hand_held, pool_home, pool_numbers};
 ghost use Rattle.zk_pool.specs.Keepers.{Keeps, Carries, keeper_aside, keeper_empties};
 ghost use Rattle.zk_pool.specs.Rule.{Suits};
@@ -10,7 +10,7 @@ use std::alloc::Global;
 use std::sync::Wait;
 use zk_base::{NoMemory, push_within};
 
-/// A hand, and the items that its thread keeps out of the queue until its end, so that no other takes them in vain.
+/// A hand, and the items that its thread keeps out of the queue, so that no other takes them in vain.
 #[derive(Drop)]
 pub struct Keeper<T: Numbered> {
     pub(crate) hand: Hand<T>,
@@ -67,6 +67,34 @@ impl<T: Numbered> Keeper<T> {
     {
         let _pool = pool;
         push_within(&mut self.aside, item);
+    }
+
+    /// How many items it keeps.
+    pub fn kept(&self) -> usize
+        ensures { result ≡ length (keeper_aside self.now) }
+    {
+        self.aside.len()
+    }
+
+    /// One of the items that it keeps, by its place. The places are other ones after a `recall`.
+    pub fn kept_at(&self, at: usize) -> &T
+        requires { at < length (keeper_aside self.now) }
+        ensures { slice_get (keeper_aside self.now) at ≡ Some result.now }
+    {
+        &self.aside[at]
+    }
+
+    /// Takes up again one of the items that it keeps, by its place. The last one comes to stand there.
+    pub fn recall(&mut self, pool: &Pool<T>, at: usize) -> T
+        requires keeps { Keeps T.number T.home T.kept pool.now self.old }
+        requires within { at < length (keeper_aside self.old) }
+        ensures carries { Carries T.number T.home T.kept pool.now self.new (T.number result) }
+        ensures suits { Suits T.number T.home T.kept (pool_home T.home pool.now) result }
+        ensures one { slice_get (keeper_aside self.old) at ≡ Some result }
+        ensures others { keeper_aside self.new ≡ swap_remove (keeper_aside self.old) at result }
+    {
+        let _pool = pool;
+        self.aside.swap_remove(at)
     }
 
     /// Gives back all that it keeps.

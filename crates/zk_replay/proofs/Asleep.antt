@@ -1,6 +1,7 @@
 -- A player that sleeps has no possible attempt, and who sleeps is known behind each turn.
-use Rattle.std.proofs.Common.{◌≡◌, ◌≢◌, ◌⊎◌, inl, inr, ℕ, zero, suc, ◌+◌, ◌-◌, ◌<◌, ◌≤◌, Bool, true, false, cond, Option, Some, None, is_some, List, [], ◌∷◌, ◌++◌, length, map, get_or, set, slice_get, option_and_then, All, refl, sym, ap, subst, ◌∙◌, arith}
+use Rattle.std.proofs.Common.{◌≡◌, ◌≢◌, ◌⊎◌, inl, inr, ℕ, zero, suc, ◌+◌, ◌-◌, Bool, true, false, cond, Option, Some, None, is_some, List, [], ◌∷◌, ◌++◌, length, map, get_or, set, slice_get, option_and_then, All, refl, sym, ap, subst, ◌∙◌, arith}
 use Rattle.std.proofs.lemmas.List.{length_push}
+use Rattle.std.proofs.lemmas.Option.{same_Some}
 use Rattle.std.proofs.lemmas.List.Elements.{All-nil, All-cons, All-head, All-tail}
 use Rattle.zk_base.specs.declared.ids.Who.{Who}
 use Rattle.zk_scenario.specs.Content.{Content}
@@ -9,24 +10,22 @@ use Rattle.zk_worker.specs.declared.steps.Step.{Step}
 use Rattle.zk_worker.specs.declared.steps.StepReply.{StepReply}
 use Rattle.zk_worker.specs.Attempt.{reply_in}
 use Rattle.zk_worker.specs.Choosing.{or_else, first_possible, chosen}
-use Rattle.zk_worker.specs.Follows.{is_spent_at}
 use Rattle.zk_worker.specs.Machines.{Machines, machines_of}
 use Rattle.zk_worker.specs.Places.{PlayerPlace}
 use Rattle.zk_worker.specs.Protocol.{attempts, spot_of}
 use Rattle.zk_worker.specs.Shown.{Shown, shown_after}
 use Rattle.zk_worker.proofs.CheckedSteps.{after-spots}
-use Rattle.zk_worker.proofs.Lists.{slice_get-set, set-there, there-behind, none-passes}
-use Rattle.zk_world.specs.Ready.{IsReady}
+use Rattle.zk_worker.proofs.Lists.{slice_get-set, there-behind}
 use Rattle.zk_world.specs.World.{World, world, stepped, is_spent}
 use Rattle.zk_services.specs.Counted.{service_of}
 use Rattle.zk_replay.specs.declared.last_turn.Asked.{Asked}
 use Rattle.zk_replay.specs.declared.last_turn.LastTurn.{LastTurn}
 use Rattle.zk_replay.specs.declared.sleepers.Sleepers.{Sleepers}
-use Rattle.zk_replay.specs.LastTurns.{asked_at, IsKept}
-use Rattle.zk_replay.specs.Sleeping.{is_asleep, list_of, entered_at, last_entered, asks_at, Sleeps, AreAsleep, AreListed, FellAsleep, SleepOn}
+use Rattle.zk_replay.specs.LastTurns.{asked_at, IsKept, AreKept}
+use Rattle.zk_replay.specs.Sleeping.{is_asleep, list_of, entered_at, last_entered, asks_at, Sleeps, AreAsleep, AreListed, ArePassed, FellAsleep, IsInVain, SleepOn}
 use Rattle.zk_replay.specs.RoundRobin.{turn, turn_of, turns}
 use Rattle.zk_replay.specs.Turning.{shown_with, at_after, IsTurn, WithinRound}
-use Rattle.zk_replay.proofs.InVain.{none_first, none_or}
+use Rattle.zk_replay.proofs.InVain.{none_first, none_or, still-none}
 use Rattle.zk_replay.proofs.Rounds.{within-left}
 use Rattle.zk_replay.proofs.Told.{told}
 
@@ -49,16 +48,24 @@ module _ (m : Machines) (shown : Shown) (who : Who) where
       ∙ none-all xs (All-tail IsNone x xs all)
 
 -- a player that sleeps has no possible attempt
-asleep-none : (m : Machines) (s : Content) (shown : Shown) (players : List PlayerPlace) (sleepers : Sleepers) (p : ℕ) (at : PlayerPlace) → AreAsleep m s (world shown players) sleepers →
+pub asleep-none : (m : Machines) (s : Content) (shown : Shown) (players : List PlayerPlace) (sleepers : Sleepers) (p : ℕ) (at : PlayerPlace) → AreAsleep m s (world shown players) sleepers →
     is_asleep sleepers p ≡ true → slice_get players p ≡ Some at → chosen m s shown at ≡ None
 asleep-none m s shown players sleepers p at were sleeps there =
     let it = were p at there sleeps in
     none-all m shown at.who (attempts s at) it.none
 
--- so its turn leaves all as it is
-asleep-turn : (s : Content) (shown : Shown) (players : List PlayerPlace) (sleepers : Sleepers) (p : ℕ) → AreAsleep (machines_of s) s (world shown players) sleepers →
-    is_spent s (world shown players) ≡ false → is_asleep sleepers p ≡ true → turn (machines_of s) s (world shown players) p ≡ world shown players
-asleep-turn s shown players sleepers p were unspent sleeps =
+-- and neither has one that asks in vain
+pub vain-none : (m : Machines) (s : Content) (shown : Shown) (players : List PlayerPlace) (waiting : List LastTurn) (p : ℕ) (at : PlayerPlace) → AreKept m s (world shown players) waiting →
+    IsInVain m shown players waiting p → slice_get players p ≡ Some at → chosen m s shown at ≡ None
+vain-none m s shown players waiting p at were vain there =
+    let same : vain.at ≡ at = same_Some vain.at at (sym vain.there ∙ there) in
+    ap (chosen m s shown) (sym same)
+    ∙ still-none m s shown vain.at vain.kept.asked.items (were p vain.at vain.kept vain.there vain.noted vain.waits) vain.futile
+
+-- so the turn of such a player leaves all as it is
+none-turn : (s : Content) (shown : Shown) (players : List PlayerPlace) (p : ℕ) → ((at : PlayerPlace) → slice_get players p ≡ Some at → chosen (machines_of s) s shown at ≡ None) →
+    is_spent s (world shown players) ≡ false → turn (machines_of s) s (world shown players) p ≡ world shown players
+none-turn s shown players p none unspent =
     ap (λ (b : Bool). cond b w (turn_of m s w p (slice_get players p))) unspent ∙ by (slice_get players p) refl
   where
     m : Machines
@@ -68,28 +75,28 @@ asleep-turn s shown players sleepers p were unspent sleeps =
     w = world shown players
 
     by : (o : Option PlayerPlace) → slice_get players p ≡ o → turn_of m s w p (slice_get players p) ≡ w
-    by None none = ap (turn_of m s w p) none
-    by (Some at) there = ap (turn_of m s w p) there ∙ ap (stepped s w p at) (asleep-none m s shown players sleepers p at were sleeps there)
+    by None is = ap (turn_of m s w p) is
+    by (Some at) there = ap (turn_of m s w p) there ∙ ap (stepped s w p at) (none at there)
 
 -- and so do the turns of several
-pub within-asleep : (s : Content) (old : World) (shown : Shown) (players : List PlayerPlace) (sleepers : Sleepers) (moved : Bool) (n k p : ℕ) →
-    AreAsleep (machines_of s) s (world shown players) sleepers → ((q : ℕ) → p ≤ q → q < p + k → is_asleep sleepers q ≡ true) →
+pub within-passed : (s : Content) (old : World) (shown : Shown) (players : List PlayerPlace) (moved : Bool) (n k p : ℕ) →
+    ArePassed (machines_of s) s shown players p k →
     WithinRound (machines_of s) s old (world shown players) moved n p → WithinRound (machines_of s) s old (world shown players) moved (n - k) (p + k)
-within-asleep s old shown players sleepers moved n zero p were asleep within =
+within-passed s old shown players moved n zero p passed within =
     let m = machines_of s in
     let now = world shown players in
     let place : p ≡ p + 0 = omega arith in
     subst (WithinRound m s old now moved (n - 0)) place (within-left m s old now moved n (n - 0) p (omega arith) within)
-within-asleep s old shown players sleepers moved zero (suc k) p were asleep within =
+within-passed s old shown players moved zero (suc k) p passed within =
     let m = machines_of s in
     let now = world shown players in
     let none : WithinRound m s old now moved 0 (p + suc k) =
     record { rest = within.rest; ready = within.ready; unspent = within.unspent; less = within.less; still = within.still } in
     within-left m s old now moved 0 (0 - suc k) (p + suc k) (omega arith) none
-within-asleep s old shown players sleepers moved (suc n) (suc k) p were asleep within =
+within-passed s old shown players moved (suc n) (suc k) p passed within =
     let m = machines_of s in
     let now = world shown players in
-    let here : turn m s now p ≡ now = asleep-turn s shown players sleepers p were within.unspent (asleep p (omega arith) (omega arith)) in
+    let here : turn m s now p ≡ now = none-turn s shown players p (passed p (omega arith) (omega arith)) within.unspent in
     let next : WithinRound m s old now moved n (p + 1) = record {
       rest = ap (λ (w : World). turns m s w n (p + 1)) (sym here) ∙ within.rest;
       ready = within.ready;
@@ -100,7 +107,7 @@ within-asleep s old shown players sleepers moved (suc n) (suc k) p were asleep w
     let place : p + 1 + k ≡ p + suc k = omega arith in
     within-left m s old now moved (n - k) (suc n - suc k) (p + suc k) (omega arith)
     (subst (WithinRound m s old now moved (n - k)) place
-    (within-asleep s old shown players sleepers moved n k (p + 1) were (λ q low high. asleep q (omega arith) (omega arith)) next))
+    (within-passed s old shown players moved n k (p + 1) (λ q low high. passed q (omega arith) (omega arith)) next))
 
 -- the last spot of a log is that of the last step
 last-pushed : (log : List Spot) (spot : Spot) → last_entered (log ++ spot ∷ []) ≡ entered_at spot

@@ -106,7 +106,7 @@ first-still m old new who grew (x ∷ xs) none futile =
     ∙ first-still m old new who grew xs both.1 (All-tail P (asked_at old x) (map (asked_at old) xs) futile)
 
 -- it has no possible attempt still
-still-none : (m : Machines) (s : Content) (shown : Shown) (at : PlayerPlace) (asked : List Asked) → WaitsSince m s shown at asked → AreFutile m shown at.who asked → chosen m s shown at ≡ None
+pub still-none : (m : Machines) (s : Content) (shown : Shown) (at : PlayerPlace) (asked : List Asked) → WaitsSince m s shown at asked → AreFutile m shown at.who asked → chosen m s shown at ≡ None
 still-none m s shown at asked since futile =
     first-still m since.earlier shown at.who since.since (attempts s at) since.none (subst (λ (l : List Asked). AreFutile m shown at.who l) since.asks futile)
 

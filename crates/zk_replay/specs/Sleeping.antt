@@ -1,5 +1,5 @@
 -- Inner: no contract of a top call is made of this file.
-use Rattle.std.specs.Prelude.{◌≡◌, ◌≢◌, ℕ, ◌+◌, ◌-◌, Bool, true, false, Option, Some, None, List, length, slice_get, option_and_then, All}
+use Rattle.std.specs.Prelude.{◌≡◌, ◌≢◌, ℕ, ◌+◌, ◌-◌, ◌<◌, ◌≤◌, Bool, true, false, Option, Some, None, List, length, slice_get, option_and_then, All}
 use Rattle.std.specs.Option.{option_map_or}
 use Rattle.zk_player_set.specs.declared.player_set.PlayerSet.{PlayerSet}
 use Rattle.zk_player_set.specs.Players.{has}
@@ -11,6 +11,7 @@ use Rattle.zk_worker.specs.declared.steps.Spot.{Spot}
 use Rattle.zk_worker.specs.declared.steps.Spot.TheVariants as spots
 use Rattle.zk_worker.specs.declared.steps.Step.{Step}
 use Rattle.zk_worker.specs.Attempt.{reply_in}
+use Rattle.zk_worker.specs.Choosing.{chosen}
 use Rattle.zk_worker.specs.Machines.{Machines}
 use Rattle.zk_worker.specs.Places.{PlayerPlace}
 use Rattle.zk_worker.specs.Protocol.{attempts}
@@ -19,6 +20,7 @@ use Rattle.zk_world.specs.World.{World}
 use Rattle.zk_replay.specs.declared.last_turn.Asked.{Asked}
 use Rattle.zk_replay.specs.declared.last_turn.LastTurn.{LastTurn}
 use Rattle.zk_replay.specs.declared.sleepers.Sleepers.{Sleepers}
+use Rattle.zk_replay.specs.LastTurns.{AreFutile}
 
 -- the number of the list of a service: an object's stands behind those of the services of which there is one
 abbrev pub list_of : ServiceId → ℕ
@@ -86,6 +88,20 @@ pub record FellAsleep (kept : LastTurn) (number : ℕ) (old new : Sleepers) : Ty
   pub listed : is_asleep new number ≡ true → AreListed new.lists.items kept.asked.items number
   pub others : (p : ℕ) → p ≢ number → is_asleep new p ≡ true → is_asleep old p ≡ true
   pub stand : StandStill old.lists.items new.lists.items
+
+-- the last turn of a player was in vain, and what it asked for then is in vain still
+pub record IsInVain (m : Machines) (shown : Shown) (players : List PlayerPlace) (waiting : List LastTurn) (p : ℕ) : Type 0 where
+  pub at : PlayerPlace
+  pub kept : LastTurn
+  pub there : slice_get players p ≡ Some at
+  pub noted : slice_get waiting p ≡ Some kept
+  pub waits : kept.waits ≡ true
+  pub futile : AreFutile m shown at.who kept.asked.items
+
+-- none of so many players from one on has a possible attempt
+abbrev pub ArePassed : Machines → Content → Shown → List PlayerPlace → ℕ → ℕ → Type 0
+ArePassed m s shown players p count =
+    (q : ℕ) → p ≤ q → q < p + count → (at : PlayerPlace) → slice_get players q ≡ Some at → chosen m s shown at ≡ None
 
 -- a player that sleeps slept before, and stands in each list still: not in that of a further entry
 pub record SleepsOn (entered : Option ServiceId) (old new : Sleepers) (p : ℕ) : Type 0 where

@@ -43,14 +43,14 @@ pub fn no_turns(alloc: Global, players: usize) -> Result<Vec<LastTurn>, NoMemory
     Ok(all)
 }
 
-/// Whether a step that was asked for in vain is in vain still: its service has as many entries as it had, or says so.
+/// Whether a step that was asked for in vain is in vain still: its service says so, or has as many entries as it had.
 // Out of line: it looks at one service, and in line the lists of all are loaded first.
 #[inline(never)]
 fn is_futile<V: Counted>(services: &V, who: Who, asked: &Asked) -> bool
     ensures { result ≡ true → IsFutile (V.machines services.now) (V.shown services.now) who asked.now }
 {
-    services.entries(service_of(&asked.step)) == asked.entries
-        || services.is_futile(who, &asked.step)
+    services.is_futile(who, &asked.step)
+        || services.entries(service_of(&asked.step)) == asked.entries
 }
 
 /// Whether all of these steps are in vain still.

@@ -14,7 +14,7 @@ ghost use Rattle.zk_replay.specs.LastTurns.{IsKept, AreKept};
 ghost use Rattle.zk_replay.specs.Sleeping.{is_asleep, AreAsleep};
 
 use crate::last_turn::{LastTurn, is_in_vain, keep, no_turns};
-use crate::sleepers::{Sleepers, asleep_from, fall_asleep, no_sleepers, wake};
+use crate::sleepers::{Sleepers, fall_asleep, no_sleepers, passed_over, wake};
 use std::alloc::Global;
 use zk_base::NoMemory;
 use zk_scenario::Scenario;
@@ -147,15 +147,15 @@ fn take_turn<V: Counted>(
     let kept = &mut waiting[number];
     let turn = play_or_pass(services, scenario, player, kept)?;
     if turn.moved {
-        wake(player, sleepers);
+        wake(player, number, sleepers);
         return Ok(turn);
     }
     fall_asleep(kept, number, sleepers);
     Ok(turn)
 }
 
-/// A turn of each player in order, but not beyond one that is spent by its turn. Who sleeps isn't asked: most of the time most
-/// do.
+/// A turn of each player in order, but not beyond one that is spent by its turn. Who sleeps, or would ask in vain, isn't asked:
+/// most of the time most do.
 fn play_round<V: Counted>(
     services: &mut V,
     scenario: &Scenario,
@@ -186,9 +186,9 @@ fn play_round<V: Counted>(
     let mut moved = false;
     let mut number = 0;
     while number < players.len() {
-        let asleep = asleep_from(sleepers, number);
-        if asleep > 0 {
-            number += asleep;
+        let passed = passed_over(services, scenario, players, waiting, sleepers, number);
+        if passed > 0 {
+            number += passed;
         } else {
             let turn = take_turn(services, scenario, players, waiting, sleepers, number)?;
             if turn.spent {

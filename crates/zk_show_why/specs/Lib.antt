@@ -1,3 +1,9 @@
+pub mod Leavings
+pub mod Left
+pub mod Oops
 pub mod Players
 pub mod Refusal
 pub mod Sentences
+pub mod Times
+pub mod Waits
+pub mod Whereabouts

@@ -1,12 +1,13 @@
 use crate::people::{known, worker_of};
 use crate::serving::first_named;
-use zk_base::{Entry, Who};
+use crate::waits::{entry_at, holder_of};
+use zk_base::Who;
 use zk_line::word_of;
-use zk_model_bus::{ChanOp, ChanReply, ObsReply};
+use zk_model_bus::{ChanReply, ObsReply};
 use zk_model_wait::{MsgqReply, SemReply};
 use zk_model_work::{Submitted, WorkReply};
 use zk_scenario::{Call, Scenario};
-use zk_trace::{History, Trace};
+use zk_trace::Trace;
 use zk_words::Word;
 use zk_worker::{Log, Spot};
 
@@ -16,12 +17,6 @@ pub struct Keeper {
     pub player: usize,
     /// Since which of its own steps.
     pub since: Option<u32>,
-}
-
-/// The entry at a place of an object's history.
-fn entry_at<O, R>(histories: &[History<O, R>], object: u32, place: u64) -> Option<&Entry<O, R>> {
-    let history = histories.get(object as usize)?;
-    history.items().get(place as usize)
 }
 
 /// Whether a player's last step began a wait, or asked an event of a poll that wasn't ready.
@@ -70,10 +65,10 @@ pub fn keeper_of(scenario: &Scenario, trace: &Trace, log: &Log, call: &Call) -> 
     }
     let object = known(first_named(call)?)?;
     match word {
-        Word::Claim => holder_of(trace, object),
-        Word::Publish => holder_of(trace, object),
-        Word::Notify => holder_of(trace, object),
-        Word::Read => holder_of(trace, object),
+        Word::Claim => holder(trace, object),
+        Word::Publish => holder(trace, object),
+        Word::Notify => holder(trace, object),
+        Word::Read => holder(trace, object),
         Word::CancelSync => runner_of(trace, scenario.number(object)),
         Word::Drain => Some(Keeper {
             player: worker_of(scenario, scenario.number(object)),
@@ -84,17 +79,12 @@ pub fn keeper_of(scenario: &Scenario, trace: &Trace, log: &Log, call: &Call) -> 
 }
 
 /// Who holds a channel.
-fn holder_of(trace: &Trace, chan: u32) -> Option<Keeper> {
-    let mut holder = None;
-    for entry in trace.chans.items().get(chan as usize)?.items() {
-        match (entry.op, entry.reply) {
-            (_, ChanReply::Got) => holder = Some(since(entry.who, entry.step)),
-            (ChanOp::Free, _) => holder = None,
-            (ChanOp::Finish, ChanReply::Done) => holder = None,
-            _ => {}
-        }
-    }
-    holder
+fn holder(trace: &Trace, chan: u32) -> Option<Keeper> {
+    let holder = holder_of(trace, chan)?;
+    Some(Keeper {
+        player: holder.player as usize,
+        since: Some(holder.since),
+    })
 }
 
 // Whoever made this step.

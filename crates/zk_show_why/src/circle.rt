@@ -1,16 +1,24 @@
 use crate::run::Run;
+use crate::servers::ender;
 use crate::story::{Saying, Story};
 use crate::words::Told;
-use zk_base::MOST_PLAYERS;
+use std::alloc::Global;
+use zk_base::{MOST_PLAYERS, NoMemory};
 
 const PLAYERS: usize = MOST_PLAYERS as usize;
 
 /// Tells of the circles of players each of whom waits for the next, a line for each.
-pub fn tell_circles(story: &mut Story, run: &Run<'_>, open: &[usize]) {
+pub fn tell_circles(
+    alloc: Global,
+    story: &mut Story,
+    run: &Run<'_>,
+    open: &[usize],
+) -> Result<(), NoMemory> {
     let mut enders: [Option<usize>; PLAYERS] = [None; PLAYERS];
-    for player in 0..run.players() {
-        if let Some(place) = enders.get_mut(player) {
-            *place = run.ender(player);
+    for player in open {
+        let only = ender(alloc, run, *player)?;
+        if let Some(place) = enders.get_mut(*player) {
+            *place = only;
         }
     }
     for player in open {
@@ -18,10 +26,11 @@ pub fn tell_circles(story: &mut Story, run: &Run<'_>, open: &[usize]) {
             tell_circle(story, &enders, *player);
         }
     }
+    Ok(())
 }
 
 // The only one who could end a player's wait.
-fn ender(enders: &[Option<usize>], player: usize) -> Option<usize> {
+fn ender_in(enders: &[Option<usize>], player: usize) -> Option<usize> {
     *enders.get(player)?
 }
 
@@ -29,7 +38,7 @@ fn ender(enders: &[Option<usize>], player: usize) -> Option<usize> {
 fn is_first_in_circle(enders: &[Option<usize>], player: usize) -> bool {
     let mut at = player;
     for _ in enders {
-        match ender(enders, at) {
+        match ender_in(enders, at) {
             Some(next) if next == player => return true,
             Some(next) if player < next => at = next,
             _ => return false,
@@ -41,7 +50,7 @@ fn is_first_in_circle(enders: &[Option<usize>], player: usize) -> bool {
 fn tell_circle(story: &mut Story, enders: &[Option<usize>], player: usize) {
     let mut at = player;
     for number in 0..enders.len() {
-        let Some(next) = ender(enders, at) else {
+        let Some(next) = ender_in(enders, at) else {
             break;
         };
         let told = match number {

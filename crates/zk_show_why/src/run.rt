@@ -2,8 +2,6 @@ ghost use Rattle.std.specs.Prelude.{◌≡◌, IfOk};
 ghost use Rattle.zk_show_why.specs.Players.{players_in, same_state};
 
 use crate::awaited::{Keeper, keeper_of};
-use crate::lines::Place;
-use crate::serving::{Sought, first_ahead};
 use crate::stand::{Stand, stand_of};
 use std::alloc::Global;
 use zk_base::NoMemory;
@@ -84,32 +82,6 @@ impl<'a> Run<'a> {
         keeper_of(self.scenario, self.trace, self.log(player)?, call)
     }
 
-    /// Where a call that could end a wait is ahead of another player that stands.
-    pub fn ahead(&self, player: usize, server: usize, waiting: &Call) -> Option<Place> {
-        if player == server || self.state(server)? != PlayerState::Standing {
-            return None;
-        }
-        first_ahead(self.scenario, self.stand(server)?, Sought::EndOf(waiting))
-    }
-
-    /// The only player who could end the wait of another, if there is just one.
-    pub fn ender(&self, player: usize) -> Option<usize> {
-        if let Some(keeper) = self.keeper(player) {
-            return Some(keeper.player);
-        }
-        let call = self.waiting(player)?;
-        let mut ender = None;
-        for server in 0..self.stands.len() {
-            if self.ahead(player, server, call).is_some() {
-                if ender.is_some() {
-                    return None;
-                }
-                ender = Some(server);
-            }
-        }
-        ender
-    }
-
     /// How many steps a player has made.
     pub fn steps(&self, player: usize) -> usize {
         match self.log(player) {
@@ -121,22 +93,6 @@ impl<'a> Run<'a> {
     /// The number of a player's last step.
     pub fn last_step(&self, player: usize) -> u64 {
         self.steps(player).saturating_sub(1) as u64
-    }
-
-    /// Whether each player but this one is through, or was ended by an oops.
-    pub fn others_are_through(&self, player: usize) -> bool {
-        for (other, log) in self.trace.logs.items().iter().enumerate() {
-            let through = match log.state {
-                PlayerState::Done => true,
-                PlayerState::Oops => true,
-                PlayerState::Spent => false,
-                PlayerState::Standing => false,
-            };
-            if !through && other != player {
-                return false;
-            }
-        }
-        true
     }
 
     pub fn players(&self) -> usize {

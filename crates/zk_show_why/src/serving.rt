@@ -1,7 +1,9 @@
 use crate::lines::Place;
+use crate::run::Run;
 use crate::stand::Stand;
 use crate::words::Told;
 use zk_line::{Arg, Event, said_of, word_of};
+use zk_model_bus::{ChanOp, ChanReply, ObsOp};
 use zk_scenario::{Call, Decl, Ref, Scenario};
 use zk_words::Word;
 
@@ -13,8 +15,8 @@ fn is_same(one: Ref, other: Ref) -> bool {
     }
 }
 
-/// Whether a call could end the wait of another one.
-fn serves(scenario: &Scenario, waiting: &Call, call: &Call) -> bool {
+/// Whether a call could end the wait of another one, if its player may make it, and the observer isn't masked or disabled.
+pub fn serves(scenario: &Scenario, waiting: &Call, call: &Call) -> bool {
     match (waiting, call) {
         (Call::Take(sem, _), Call::Give(other)) => is_same(*sem, *other),
         (Call::Take(sem, _), Call::Reset(other)) => is_same(*sem, *other),
@@ -62,7 +64,51 @@ fn tells(scenario: &Scenario, chan: Ref, observer: Ref) -> bool {
     false
 }
 
-/// What may be said of a wait in a call.
+/// Whether whoever waits in a call is told of what this call publishes: a subscriber that is masked or disabled isn't.
+pub fn is_told(run: &Run<'_>, waiting: &Call, call: &Call) -> bool {
+    match (waiting, call) {
+        (Call::SubWait(sub, _), Call::Publish(chan, _, _)) => hears(run, *chan, *sub),
+        (Call::SubWait(sub, _), Call::Notify(chan, _)) => hears(run, *chan, *sub),
+        _ => true,
+    }
+}
+
+/// Whether an observer is told of the messages of a channel, at the end of the run.
+pub fn hears(run: &Run<'_>, chan: Ref, observer: Ref) -> bool {
+    let (Ref::Known(chan), Ref::Known(observer)) = (chan, observer) else {
+        return false;
+    };
+    !is_masked(run, chan, observer) && !is_disabled(run, observer)
+}
+
+fn is_masked(run: &Run<'_>, chan: u32, observer: u32) -> bool {
+    let Some(history) = run.trace.chans.items().get(chan as usize) else {
+        return false;
+    };
+    let mut masked = false;
+    for entry in history.items() {
+        match (entry.op, entry.reply) {
+            (ChanOp::Mask(other, on), ChanReply::Done) if other == observer => masked = on,
+            _ => {}
+        }
+    }
+    masked
+}
+
+fn is_disabled(run: &Run<'_>, observer: u32) -> bool {
+    let Some(history) = run.trace.observers.items().get(observer as usize) else {
+        return false;
+    };
+    let mut disabled = false;
+    for entry in history.items() {
+        if let ObsOp::Enable(on) = entry.op {
+            disabled = !on;
+        }
+    }
+    disabled
+}
+
+/// What may be said of a wait in a call that its last step doesn't say.
 #[derive(Clone, Copy)]
 pub struct Wait {
     /// What it waits for.
@@ -70,46 +116,31 @@ pub struct Wait {
     /// That the waiting player itself, or another one, keeps it so.
     pub own: Told,
     pub kept: Told,
-    /// That nobody has a call ahead that would end it.
-    pub nobody: Told,
 }
 
 /// What may be said of a wait in this call.
 pub fn wait_in(call: &Call) -> Wait {
     match word_of(call) {
-        Word::Take => served(Told::AwaitsGive, Told::NobodyGives),
-        Word::Get => served(Told::AwaitsMessage, Told::NobodyPuts),
-        Word::Put => served(Told::AwaitsRoom, Told::NobodyGets),
-        Word::SubWait => served(Told::AwaitsNotice, Told::NobodyPublishes),
-        Word::Poll => served(Told::AwaitsEvent, Told::NobodyMakesReady),
         Word::CancelSync => kept(Told::AwaitsRunEnd, Told::OwnRun, Told::Runs),
         Word::Flush => kept(Told::AwaitsRun, Told::OwnSubmission, Told::HasToRun),
         Word::Drain => kept(Told::AwaitsAll, Told::OwnQueue, Told::IsItsWorker),
-        Word::Claim => kept(Told::AwaitsChannel, Told::OwnChannel, Told::Holds),
-        Word::Publish => kept(Told::AwaitsChannel, Told::OwnChannel, Told::Holds),
-        Word::Notify => kept(Told::AwaitsChannel, Told::OwnChannel, Told::Holds),
-        Word::Read => kept(Told::AwaitsChannel, Told::OwnChannel, Told::Holds),
-        _ => served(Told::AwaitsEvent, Told::NobodyCalls),
+        _ => kept(Told::AwaitsEvent, Told::OwnRun, Told::Runs),
     }
 }
 
-// A wait that another call ends.
-fn served(awaited: Told, nobody: Told) -> Wait {
-    Wait {
-        awaited,
-        own: Told::OwnChannel,
-        kept: Told::Holds,
-        nobody,
-    }
-}
-
-// A wait for what a player has or does.
 fn kept(awaited: Told, own: Told, kept: Told) -> Wait {
-    Wait {
-        awaited,
-        own,
-        kept,
-        nobody: Told::NobodyCalls,
+    Wait { awaited, own, kept }
+}
+
+/// That nobody has a call for a wait in this call.
+pub fn nobody_for(call: &Call) -> Told {
+    match word_of(call) {
+        Word::Take => Told::NobodyGives,
+        Word::Get => Told::NobodyPuts,
+        Word::Put => Told::NobodyGets,
+        Word::SubWait => Told::NobodyPublishes,
+        Word::Poll => Told::NobodyMakesReady,
+        _ => Told::NobodyCalls,
     }
 }
 
@@ -121,29 +152,11 @@ pub fn first_named(call: &Call) -> Option<Ref> {
     }
 }
 
-/// Which call is looked for.
-#[derive(Clone, Copy)]
-pub enum Sought<'a> {
-    /// One that could end the wait in this call.
-    EndOf(&'a Call),
-    /// One that lets time go on.
-    Tick,
-}
-
-fn is_sought(scenario: &Scenario, sought: Sought<'_>, call: &Call) -> bool {
-    match (sought, call) {
-        (Sought::EndOf(waiting), _) => serves(scenario, waiting, call),
-        (Sought::Tick, Call::Tick(_)) => true,
-        (Sought::Tick, _) => false,
-    }
-}
-
-/// The first such call among those that are ahead where a player stands: in its innermost script, and then in those around
-/// it.
-pub fn first_ahead(scenario: &Scenario, stand: &Stand, sought: Sought<'_>) -> Option<Place> {
+/// The first `tick` that a player has still to make: in its innermost script, and then in those around it.
+pub fn tick_ahead(scenario: &Scenario, stand: &Stand) -> Option<Place> {
     let mut innermost = None;
     for place in &stand.places {
-        let found = first_from(scenario, *place, sought);
+        let found = first_tick(scenario, *place);
         if found.is_some() {
             innermost = found;
         }
@@ -151,29 +164,31 @@ pub fn first_ahead(scenario: &Scenario, stand: &Stand, sought: Sought<'_>) -> Op
     innermost
 }
 
-// The first one from a place of a script on.
-fn first_from(scenario: &Scenario, from: Place, sought: Sought<'_>) -> Option<Place> {
+fn first_tick(scenario: &Scenario, from: Place) -> Option<Place> {
     for (next, call) in scenario.calls(from.owner).iter().enumerate() {
-        if from.next <= next && is_sought(scenario, sought, call) {
-            return Some(Place {
-                owner: from.owner,
-                next,
-            });
+        if let Call::Tick(_) = call {
+            if from.next <= next {
+                return Some(Place {
+                    owner: from.owner,
+                    next,
+                });
+            }
         }
     }
     None
 }
 
-/// The first such call in the script of an item or a listener.
-pub fn first_in_handlers(scenario: &Scenario, sought: Sought<'_>) -> Option<Place> {
+/// The first call that would end the wait in this call, in the script of an item or a listener.
+pub fn first_in_handlers(scenario: &Scenario, waiting: &Call) -> Option<Place> {
     for script in scenario.scripts() {
         let owner = script.owner;
-        let found = match scenario.decls().get(owner as usize) {
-            Some(Decl::Thread(_, _, _)) => None,
-            _ => first_from(scenario, Place { owner, next: 0 }, sought),
-        };
-        if found.is_some() {
-            return found;
+        if let Some(Decl::Thread(_, _, _)) = scenario.decls().get(owner as usize) {
+            continue;
+        }
+        for (next, call) in script.calls.items().iter().enumerate() {
+            if serves(scenario, waiting, call) {
+                return Some(Place { owner, next });
+            }
         }
     }
     None

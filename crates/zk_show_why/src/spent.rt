@@ -11,9 +11,8 @@ const LAST: usize = 64;
 
 const LONGEST_RUN: usize = 16;
 
-/// Tells how many steps a player has made, and which calls it repeats.
+/// Tells which calls a player repeats that has made all its steps.
 pub fn tell_spent(story: &mut Story, run: &Run<'_>, player: usize) {
-    story.say(Saying::of(Told::Steps).number(run.steps(player) as u64));
     if let Some(log) = run.log(player) {
         match period(&log.answers) {
             Some(count) => tell_last(story, &log.answers, count, Told::Repeats),

@@ -77,6 +77,32 @@ impl Stand {
         true
     }
 
+    // Goes through the first steps of a log, if its answers to them are those of the scripts.
+    fn follow(
+        &mut self,
+        scenario: &Scenario,
+        trace: &Trace,
+        log: &Log,
+        steps: usize,
+    ) -> Result<bool, NoMemory> {
+        let mut answered: usize = 0;
+        for (step, spot) in log.steps.items().iter().enumerate() {
+            if steps <= step {
+                return Ok(true);
+            }
+            match log.answers.get(answered) {
+                Some(answer) if answer.step as usize == step => {
+                    if !self.answer(scenario, &answer) {
+                        return Ok(false);
+                    }
+                    answered = answered.saturating_add(1);
+                }
+                _ => self.step(scenario, trace, spot, step.saturating_add(1))?,
+            }
+        }
+        Ok(log.answers.len() <= answered)
+    }
+
     // A step that answers no call may open a script, or end a run.
     fn step(
         &mut self,
@@ -137,21 +163,25 @@ pub fn stand_of(
     log: &Log,
 ) -> Result<Option<Stand>, NoMemory> {
     let mut stand = Stand::at_start(alloc, scenario, player)?;
-    let mut answered: usize = 0;
-    for (step, spot) in log.steps.items().iter().enumerate() {
-        match log.answers.get(answered) {
-            Some(answer) if answer.step as usize == step => {
-                if !stand.answer(scenario, &answer) {
-                    return Ok(None);
-                }
-                answered = answered.saturating_add(1);
-            }
-            _ => stand.step(scenario, trace, spot, step.saturating_add(1))?,
-        }
-    }
-    if answered < log.answers.len() {
+    if !stand.follow(scenario, trace, log, log.steps.items().len())? {
         return Ok(None);
     }
     stand.waits = log.state == PlayerState::Standing && is_waiting(trace, log);
     Ok(Some(stand))
+}
+
+/// The call in which a player makes a step.
+pub fn call_at(
+    alloc: Global,
+    scenario: &Scenario,
+    trace: &Trace,
+    player: usize,
+    log: &Log,
+    step: usize,
+) -> Result<Option<Place>, NoMemory> {
+    let mut stand = Stand::at_start(alloc, scenario, player)?;
+    if !stand.follow(scenario, trace, log, step)? {
+        return Ok(None);
+    }
+    Ok(stand.top())
 }

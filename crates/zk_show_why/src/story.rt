@@ -4,7 +4,7 @@ use crate::text::{Template, Text, next_piece};
 use crate::words::{CALL, CALL_END, LINE, Told, need_words};
 use std::alloc::Global;
 use zk_base::NoMemory;
-use zk_scenario::{Ref, Scenario};
+use zk_scenario::{Call, Event, Ref, Scenario};
 use zk_words::{Head, Need, Word, is_same, row_of};
 
 /// What is said of a run: what, of whom, and where or since when. A part that its words have no place for says nothing.
@@ -121,6 +121,8 @@ fn put_part(text: &mut Text, scenario: &Scenario, saying: &Saying, place: &[u8])
         text.put(need_words(saying.need));
     } else if is_same(place, b"call") {
         text.put(row_of(Head::Call(saying.call)).first);
+    } else if is_same(place, b"events") {
+        put_events(text, scenario, saying.line);
     } else if let Some(object) = saying.object {
         put_of_object(text, scenario, object, place);
     }
@@ -143,5 +145,32 @@ fn put_line(text: &mut Text, scenario: &Scenario, place: Place) {
         text.put(CALL);
         text.put_call(scenario.decls(), call);
         text.put(CALL_END);
+    }
+}
+
+// The events of a poll, a space in front of each.
+fn put_events(text: &mut Text, scenario: &Scenario, place: Place) {
+    if let Some(Call::Poll(_, events)) = place.call(scenario) {
+        for event in events.items() {
+            put_event(text, scenario, event);
+        }
+    }
+}
+
+fn put_event(text: &mut Text, scenario: &Scenario, event: &Event) {
+    match event {
+        Event::Sem(sem) => {
+            text.put(b" sem:");
+            text.put(name_said(scenario, sem));
+        }
+        Event::Msgq(queue) => {
+            text.put(b" msgq:");
+            text.put(name_said(scenario, queue));
+        }
+        Event::Sig(signal) => {
+            text.put(b" sig:");
+            text.put(name_said(scenario, signal));
+        }
+        _ => {}
     }
 }

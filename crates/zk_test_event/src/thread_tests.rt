@@ -38,7 +38,7 @@ fn played<R: Threads + Wait + AllocGlobal + Sync>(
     requires few { length players.now ≤ 256 }
     requires differ { Differ players.now }
 {
-    let (cell, passes) = Cell::new(rt.alloc(), Event::new(rt.alloc()), players)?;
+    let (cell, passes) = Cell::new(rt.alloc(), Event::new(rt.alloc())?, players)?;
     let mut parts = parts_of(rt.alloc(), &cell, passes, tasks)?;
     play_each(rt, &cell, &mut parts);
     let mut got = Vec::new(rt.alloc());

@@ -2,9 +2,17 @@
 //! come and go.
 #![tactic(auto)]
 
+mod dealt;
 #[cfg(test)]
 mod fan_tests;
+mod parts;
+mod playing;
 #[cfg(test)]
 mod queue_tests;
-#[cfg(test)]
 mod seats;
+#[cfg(test)]
+mod thread_tests;
+
+pub use parts::{Part, ROUNDS, Shared, play_each};
+pub use playing::{Outcome, play_two};
+pub use seats::{message_of, one_seat, two_seats};

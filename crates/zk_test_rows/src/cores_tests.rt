@@ -88,21 +88,21 @@ impl Gate for CountingGate {
     }
 }
 
-/// What so many cores print of the scenario behind this gate, if they print a whole trace.
+/// What these words print of the input behind this gate, if they print a whole trace, or the lines of all subscribers.
 fn printed<R: Threads + Wait + Sync, G: Gate + Sync>(
     rt: &R,
     alloc: Global,
-    cores: &str,
-    scenario: &str,
+    words: &[&str],
+    input: &str,
     gate: &G,
 ) -> Result<Option<SureSink>, NoMemory> {
-    let words = vec![in alloc;
-        String::from_str(alloc, "run")?,
-        String::from_str(alloc, cores)?,
-    ]?;
-    let mut source = SureSource::new(text_of(alloc, &[scenario])?, 100);
+    let mut owned = Vec::new(alloc);
+    for word in words {
+        owned.push(String::from_str(alloc, word)?)?;
+    }
+    let mut source = SureSource::new(text_of(alloc, &[input])?, 100);
     let mut sink = SureSink::new(Vec::with_capacity(alloc, ROOM)?, 100);
-    let status = zk_run(rt, alloc, &words, &mut source, &mut sink, gate);
+    let status = zk_run(rt, alloc, &owned, &mut source, &mut sink, gate);
     Ok((status == Status::Success).then_some(sink))
 }
 
@@ -111,13 +111,26 @@ fn printed<R: Threads + Wait + Sync, G: Gate + Sync>(
 #[test]
 fn gate_forces_an_order(rt: HostRuntime) -> Result<(), Fail> {
     let gate = HeldGate::new();
-    let Some(sink) = printed(&rt, rt.alloc(), "2", GIVES, &gate)? else {
+    let Some(sink) = printed(&rt, rt.alloc(), &["run", "2"], GIVES, &gate)? else {
         return Err(Fail::from("no trace"));
     };
     assert!(rt; gate.given_up.load(SeqCst) == 0);
     let one = text_of(rt.alloc(), &[GIVES, FIRST_FIRST])?;
     let other = text_of(rt.alloc(), &[GIVES, SECOND_FIRST])?;
     assert!(rt; sink.held() == one.as_slice() || sink.held() == other.as_slice());
+    Ok(())
+}
+
+/// Publishers that ran one after the other would give the waits up, or print another order: publisher 0 is held before its first
+/// message until publisher 1 has asked for its third.
+#[test]
+fn gate_forces_an_order_of_messages(rt: HostRuntime) -> Result<(), Fail> {
+    let gate = HeldGate::new();
+    let Some(sink) = printed(&rt, rt.alloc(), &["feed", "2", "1", "100"], "", &gate)? else {
+        return Err(Fail::from("no lines"));
+    };
+    assert!(rt; gate.given_up.load(SeqCst) == 0);
+    assert!(rt; sink.held().starts_with(b"sub 0\n1.0 0000\n1.1 0001\n"));
     Ok(())
 }
 
@@ -135,7 +148,7 @@ fn a_wait_that_ends_is_played_by_its_core(rt: HostRuntime) -> Result<(), Fail> {
     let gate = CountingGate {
         passes: AtomicU64::new(0),
     };
-    assert!(rt; printed(&rt, rt.alloc(), "1", WAITS, &gate)?.is_some());
+    assert!(rt; printed(&rt, rt.alloc(), &["run", "1"], WAITS, &gate)?.is_some());
     assert!(rt; gate.passes.load(SeqCst) >= 20);
     Ok(())
 }

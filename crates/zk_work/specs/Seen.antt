@@ -8,8 +8,8 @@ use Rattle.zk_work.specs.declared.work.Work.{Work}
 
 -- the state that the service began in
 abbrev pub work_start : Work → State
-work_start w = w.inner.start
+work_start w = w.inner.value.start
 
 -- all that was done at it, oldest first
 abbrev pub work_history : Work → List (Entry WorkOp WorkReply)
-work_history w = w.inner.history
+work_history w = w.inner.value.history

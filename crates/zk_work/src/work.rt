@@ -12,7 +12,8 @@ use zk_model_work::{WorkOp, WorkReply, WorkState};
 /// The work service: all items and queues, with one history.
 #[derive(Drop)]
 pub struct Work {
-    inner: Recorded<WorkEngine>,
+    // It lies apart, so that a turn of a cell moves eight bytes.
+    inner: Box<Recorded<WorkEngine>>,
 }
 
 impl Work {
@@ -34,9 +35,8 @@ impl Work {
     {
         let start = Snapshot::of(&WorkState::new(alloc, items, workers, started)?);
         let engine = WorkEngine::new(alloc, items, workers, started)?;
-        Ok(Work {
-            inner: Recorded::new(alloc, start, engine),
-        })
+        let inner = Box::new(alloc, Recorded::new(alloc, start, engine))?;
+        Ok(Work { inner })
     }
 }
 
@@ -58,7 +58,7 @@ impl Service for Work {
 
     ghost history = { work_history };
 
-    ghost room = { λ w. w.inner.room };
+    ghost room = { λ w. w.inner.value.room };
 
     ghost closes = { λ s who op. work_closes op };
 
@@ -70,7 +70,7 @@ impl Service for Work {
 
     const WORDS: u32 = MOST_ITEMS;
 
-    ghost touched = { λ w. w.inner.touched };
+    ghost touched = { λ w. w.inner.value.touched };
 
     fn act(&mut self, who: Who, step: u32, op: WorkOp) -> Result<Option<WorkReply>, NoMemory> {
         self.inner.act(who, step, op)
@@ -102,6 +102,6 @@ impl Service for Work {
 
     fn into_history(self) -> Vec<Entry<WorkOp, WorkReply>> {
         let Work { inner } = self;
-        inner.into_history()
+        Box::into_inner(inner).into_history()
     }
 }

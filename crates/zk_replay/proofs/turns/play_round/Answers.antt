@@ -1,16 +1,16 @@
 use Rattle.std.proofs.Common.{◌+◌, ◌-◌, ◌∙◌, suc, sym, vec_len, arith}
 use Rattle.zk_worker.specs.Machines.{machines_of}
 use Rattle.zk_world.specs.World.{world}
-use Rattle.zk_replay.proofs.Asleep.{within-asleep}
+use Rattle.zk_replay.proofs.Asleep.{within-passed}
 use Rattle.zk_replay.proofs.Rounds.{within-left, within-spent, within-next}
 use Rattle.zk_replay.proofs.turns.play_round.Goals as goal
 
-pub loop-number-preserved-then-asleep-gt0 : goal.loop-number-preserved-then-asleep-gt0
-loop-number-preserved-then-asleep-gt0 g c =
+pub loop-number-preserved-then-passed-gt0 : goal.loop-number-preserved-then-passed-gt0
+loop-number-preserved-then-passed-gt0 g c =
     let s = c.args.scenario.now in
     let m = machines_of s in
     let p = c.loop-number.number in
-    let k = c.asleep_from-asleep.result in
+    let k = c.passed_over-passed.result in
     let old = world (g.V.Services.shown c.args.services.now) c.args.players.now.items in
     let shown = g.V.Services.shown c.loop-number.services in
     let players = c.loop-number.players in
@@ -19,10 +19,9 @@ loop-number-preserved-then-asleep-gt0 g c =
       alone = c.loop-number.invariant.alone;
       places = c.loop-number.invariant.places;
       kept = c.loop-number.invariant.kept;
-      asleep = c.loop-number.invariant.asleep;
+      asleep = c.passed_over-passed.ensures.asleep;
       within = within-left m s old (world shown players.items) c.loop-number.moved (n - k) (vec_len players - (p + k)) (p + k) (omega arith)
-          (within-asleep s old shown players.items c.loop-number.sleepers c.loop-number.moved n k p c.loop-number.invariant.asleep
-          c.asleep_from-asleep.ensures.all c.loop-number.invariant.within);
+          (within-passed s old shown players.items c.loop-number.moved n k p c.passed_over-passed.ensures.passed c.loop-number.invariant.within);
     }
 
 pub returns-then-turn-clause-rounded : goal.returns-then-turn-clause-rounded

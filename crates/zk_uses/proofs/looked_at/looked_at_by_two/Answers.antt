@@ -22,7 +22,7 @@ the_looker R laws threads = search (looker_send, work_send) depth 14
 taken : (R : RattleType) (laws : Laws R) (threads : Dict) (κs : Lfts 6) → IsSend (lts.arg-0-1 R laws threads κs)
 taken R laws threads κs =
     let to_cell : NamedLft = record { mir = named 2; lft = κs.1.1.0 } in
-    let held = closure_of_three (lts.name-28 R laws threads)
+    let held = closure_of_three _
     (Field.shr_ref_field to_cell (lts.of-2 R laws threads) tt).row (lts.of-4 R laws threads) (Field.u32-field).row
     (ref_send to_cell (lts.of-2 R laws threads) tt (the_cell R laws threads))
     (the_looker R laws threads) (search sendable depth 8) in

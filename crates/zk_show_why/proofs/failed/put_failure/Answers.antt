@@ -1,0 +1,5 @@
+use Rattle.zk_show_why.proofs.Telling.{put_next}
+use Rattle.zk_show_why.proofs.failed.put_failure.Goals as goal
+
+pub returns : goal.returns
+returns c = put_next _ _ _ _ _ _ c.in_ok-put_step.ensures c.put_failed.ensures

@@ -1,0 +1,3 @@
+pub mod Crossing
+pub mod Rounds
+pub mod Starts
