@@ -63,11 +63,11 @@ not-so false is = refl
 
 -- the list of a service is woken and emptied
 pub slept-list : (old new : Sleepers) (asleep left : PlayerSet) (service : ServiceId) (list kept : PlayerSet) →
-    old.asleep ≡ Some asleep → new.asleep ≡ Some left →
+    old.asleep ≡ Some asleep → ((p : ℕ) → is_asleep new p ≡ true → has left p ≡ true) →
     slice_get old.lists.items (list_of service) ≡ Some list → new.lists.items ≡ set old.lists.items (list_of service) kept →
     ((p : ℕ) → has left p ≡ (has asleep p && not (has list p))) → SleepOn (Some service) old new
 slept-list old new asleep left service list kept were are there written woken = λ p sleeps.
-    let both = sym (woken p) ∙ sym (asleep-is new (Some left) p are) ∙ sleeps in
+    let both = sym (woken p) ∙ are p sleeps in
     let isnt = not-so (has list p) (second_so (has asleep p) (not (has list p)) both) in
     record {
       slept = asleep-is old (Some asleep) p were ∙ first_so (has asleep p) (not (has list p)) both;

@@ -1,5 +1,8 @@
 ghost use Rattle.std.specs.Prelude.{◌≡◌, ℕ, ◌+◌, ◌<◌, ◌≤◌, true, false, vec_len, IfOk};
 ghost use Rattle.zk_base.specs.Limits.{most_players};
+ghost use Rattle.std.specs.Option.{option_map_or};
+ghost use Rattle.zk_player_set.specs.declared.player_set.PlayerSet.{PlayerSet};
+ghost use Rattle.zk_player_set.specs.Players.{has};
 ghost use Rattle.zk_worker.specs.Machines.{machines_of};
 ghost use Rattle.zk_world.specs.World.{world};
 ghost use Rattle.zk_replay.specs.LastTurns.{AreKept};
@@ -219,6 +222,30 @@ fn stay_longer(patience: &mut Vec<Patience>, number: usize) {
     }
 }
 
+/// Whether nobody is in the set. Where it answers so of some, they are awake, which costs time alone.
+fn is_nobody(players: &PlayerSet) -> bool {
+    let mut number = 0;
+    while number < MOST_PLAYERS {
+        let absent = players.absent_from(number);
+        if absent == 0 || absent % u64::BITS != 0 {
+            return false;
+        }
+        number += absent;
+    }
+    true
+}
+
+/// The set, if somebody is in it.
+fn some_of(players: PlayerSet) -> Option<PlayerSet>
+    ensures { (player : ℕ) → option_map_or (λ (some : PlayerSet). has some player) result false ≡ true → has players player ≡ true }
+{
+    if is_nobody(&players) {
+        None
+    } else {
+        Some(players)
+    }
+}
+
 /// Has a player that made a step fall asleep at once, where its next turn is in vain.
 fn sleep_at_once(patience: &mut Vec<Patience>, number: usize) {
     if number < patience.len() {
@@ -262,7 +289,7 @@ pub fn wake(player: &Player, number: usize, sleepers: &mut Sleepers)
         return;
     }
     let left = asleep.without(&sleepers.lists[list]);
-    sleepers.asleep = Some(left);
+    sleepers.asleep = some_of(left);
     sleepers.lists[list] = PlayerSet::none();
     sleep_at_once(&mut sleepers.patience, number);
 }

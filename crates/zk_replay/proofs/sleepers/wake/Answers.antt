@@ -13,12 +13,12 @@ returns c =
     let lists = old.lists in
     let service = c.in-Some-last_entered.service in
     let new : Sleepers =
-    record { asleep = Some c.without-left.result; lists = with_item lists c.list_of-list.result c.none.result; patience = c.sleep_at_once.new.patience } in
+    record { asleep = c.some_of-sleepers.result; lists = with_item lists c.list_of-list.result c.none.result; patience = c.sleep_at_once.new.patience } in
     let is : last_entered c.args.player.now.spots ≡ Some service = sym c.last_entered.ensures ∙ c.in-Some-last_entered.is in
     let there : slice_get lists.items (list_of service) ≡ Some c.index.result.now =
     ap (slice_get lists.items) (sym c.list_of-list.ensures)
     ∙ slice_get_read lists.items (length lists.items) c.list_of-list.result c.index.result.now refl
     (omega (arith, lists.ok.0)) c.index.ensures in
     subst (λ (o : Option ServiceId). SleepOn o old new) (sym is)
-    (slept-list old new c.in-Some.asleep c.without-left.result service c.index.result.now c.none.result c.in-Some.is refl there
+    (slept-list old new c.in-Some.asleep c.without-left.result service c.index.result.now c.none.result c.in-Some.is c.some_of-sleepers.ensures there
     (ap (λ n. set lists.items n c.none.result) c.list_of-list.ensures) c.without-left.ensures)
