@@ -1,4 +1,4 @@
-//! The program `zk_show`: its word, standard input and standard output handed to the top call.
+//! The program `zk_show`: its word, standard input, standard output and standard error handed to the top call.
 #![tactic(auto)]
 
 use std::process::ExitCode;
@@ -15,7 +15,9 @@ fn main(rt: HostRuntime) -> ExitCode {
     };
     let mut source = StdSource::new(rt.reader());
     let mut sink = StdSink::new(io::writer(&rt));
-    let status = zk_show(rt.alloc(), &words, &mut source, &mut sink);
+    let error_stream = rt.stderr();
+    let mut errors = StdSink::new(io::writer(&error_stream));
+    let status = zk_show(rt.alloc(), &words, &mut source, &mut sink, &mut errors);
     ExitCode::from(status.code())
 }
 

@@ -1,5 +1,5 @@
 -- What each way of a call comes to.
-use Rattle.std.proofs.Common.{◌≡◌, ◌≢◌, ℕ, ◌+◌, ◌<◌, ◌⊎◌, Option, Some, None, List, length, take, refl, sym, subst, inl, inr, arith}
+use Rattle.std.proofs.Common.{◌≡◌, ◌≢◌, ℕ, ◌+◌, ◌<◌, ◌⊎◌, Option, Some, None, List, length, take, refl, sym, subst, ◌∙◌, true, false, inl, inr, arith}
 use Rattle.std.proofs.lemmas.Bool.{cases_lt}
 use Rattle.std.proofs.lemmas.List.{take_all, length-take-le}
 use Rattle.std.specs.Io.KnownBytes.{Appends, Keeps}
@@ -14,7 +14,7 @@ use Rattle.zk_forms.specs.Input.{HasRead}
 use Rattle.zk_forms.specs.Output.{AppendsFront}
 use Rattle.zk_forms.specs.Top.{Prints}
 use Rattle.zk_show_view.specs.declared.view.View.{View}
-use Rattle.zk_show_view.specs.Shown.{IsRunOf, traced, played, IsToldWhy, too_long, no_scenario, no_trace, HasNoRun, IsShown, IsSaid, MayCome, PrintsFront, Shows, shown, cut_short, unmade, Went, printed, cut, unread, no_memory}
+use Rattle.zk_show_view.specs.Shown.{IsRunOf, traced, played, IsToldWhy, too_long, no_scenario, no_trace, IsShown, IsSaid, MayCome, PrintsFront, Shows, shown, cut_short, unmade, Went, printed, cut, unread, no_memory, ShowsTo, shows_out, shows_err, WentTo, went_out, went_err, PrintsFrontTo, IsTold, is_refused}
 
 -- what was not written to stays
 pub keeps-same : (held : Option (List ℕ)) → Keeps held held
@@ -31,7 +31,7 @@ said view Spent input output is = absurd is
 said view ReadFault input output is = absurd is
 said view WriteFault input output is = absurd is
 said view NoMemory input output is = absurd is
-said view Unlawful input output is = absurd is
+said view Unlawful input output is = tt
 
 -- an input above the limit has no run
 pub never-long : (front : List ℕ) (f : Format) (s : Content) (t : Trace) → LONGEST_TRACE < length front → IsRunOf front s t f → ⊥
@@ -56,7 +56,7 @@ shown-long view Spent front input output long more is = absurd is
 shown-long view ReadFault front input output long more is = absurd is
 shown-long view WriteFault front input output long more is = absurd is
 shown-long view NoMemory front input output long more is = absurd is
-shown-long view Unlawful front input output long more is = absurd is
+shown-long view Unlawful front input output long more is = absurd (never-long front is.f is.s is.t long is.run)
 
 -- one byte above the limit says as much of an input as all of it
 shown-front : (view : View) (status : Status) (n : ℕ) (input output : List ℕ) → n ≡ LONGEST_TRACE + 1 → IsShown view status (take n input) output → IsShown view status input output
@@ -143,7 +143,7 @@ module _ (view : View) (left old new : Option (List ℕ)) (reads reads' writes w
       comes ReadFault is = tt
       comes WriteFault is = tt
       comes NoMemory is = tt
-      comes Unlawful is = absurd is
+      comes Unlawful is = tt
   went-comes status (cut front rose) = tt
   went-comes status (unread rose keeps) = tt
   went-comes status (no_memory keeps) = tt
@@ -177,3 +177,112 @@ module _ (view : View) (left old new : Option (List ℕ)) (reads reads' writes w
   went-nothing status (cut front rose) which = elim which [ inl same ↦ absurd (cc) | inr same ↦ absurd (cc) ]
   went-nothing status (unread rose keeps) which = keeps
   went-nothing status (no_memory keeps) which = keeps
+
+-- what is refused is told on the second sink
+pub refused-told : (status result : Status) → status ≡ Refused → (result ≢ WriteFault → result ≡ status) → IsTold result
+refused-told status WriteFault same whole = tt
+refused-told status Refused same whole = tt
+refused-told status Success same whole = let both = whole (λ also. absurd (cc)) ∙ same in absurd (cc)
+refused-told status Words same whole = let both = whole (λ also. absurd (cc)) ∙ same in absurd (cc)
+refused-told status Stuck same whole = let both = whole (λ also. absurd (cc)) ∙ same in absurd (cc)
+refused-told status Spent same whole = let both = whole (λ also. absurd (cc)) ∙ same in absurd (cc)
+refused-told status ReadFault same whole = let both = whole (λ also. absurd (cc)) ∙ same in absurd (cc)
+refused-told status NoMemory same whole = let both = whole (λ also. absurd (cc)) ∙ same in absurd (cc)
+refused-told status Unlawful same whole = let both = whole (λ also. absurd (cc)) ∙ same in absurd (cc)
+
+-- and what isn't refused isn't
+pub other-result : (status result : Status) → (status ≡ Refused → ⊥) → (result ≢ WriteFault → result ≡ status) → result ≡ Refused → ⊥
+other-result status result other whole same =
+    let given : result ≡ status = whole (λ also. let both = sym also ∙ same in absurd (cc)) in other (sym given ∙ same)
+
+-- by the test
+pub refused-is : (status : Status) → is_refused status ≡ true → status ≡ Refused
+refused-is Success test = absurd (cc)
+refused-is Words test = absurd (cc)
+refused-is Refused test = refl
+refused-is Stuck test = absurd (cc)
+refused-is Spent test = absurd (cc)
+refused-is ReadFault test = absurd (cc)
+refused-is WriteFault test = absurd (cc)
+refused-is NoMemory test = absurd (cc)
+refused-is Unlawful test = absurd (cc)
+
+pub refused-not : (status : Status) → is_refused status ≡ false → status ≡ Refused → ⊥
+refused-not Success test same = absurd (cc)
+refused-not Words test same = absurd (cc)
+refused-not Refused test same = absurd (cc)
+refused-not Stuck test same = absurd (cc)
+refused-not Spent test same = absurd (cc)
+refused-not ReadFault test same = absurd (cc)
+refused-not WriteFault test same = absurd (cc)
+refused-not NoMemory test same = absurd (cc)
+refused-not Unlawful test same = absurd (cc)
+
+-- the same of both sinks
+module _ (view : View) (left left' old new told told' : Option (List ℕ)) (reads reads' writes writes' tells tells' : ℕ) where
+  pub went-shows-to : (read : List ℕ) (status : Status) → HasRead LONGEST_TRACE left left' read →
+      ShowsTo view read old new told told' writes writes' tells tells' status →
+      WentTo view left old new told told' reads reads' writes writes' tells tells' status
+  went-shows-to read status has (shows_out shows other same kept) =
+      went_out (went-shows view left left' old new reads reads' writes writes' read status has shows) other same kept
+  went-shows-to read status has (shows_err shows is same kept) =
+      went_err (went-shows view left left' told told' reads reads' tells tells' read status has shows) is same kept
+
+-- what a call that went so says of its status, of both sinks
+module _ (view : View) (left old new told told' : Option (List ℕ)) (reads reads' writes writes' tells tells' : ℕ) where
+  abbrev pub To : Status → Type 0
+  To status = WentTo view left old new told told' reads reads' writes writes' tells tells' status
+
+  to-out : (status wanted : Status) → To status → status ≡ wanted → IsSaid wanted → (IsTold wanted → ⊥) →
+      Prints left old new (IsShown view wanted) × (told' ≡ told)
+  to-out status wanted (went_out went other same kept) it says not =
+      (went-prints view left old new reads reads' writes writes' status wanted went it says, same)
+  to-out status wanted (went_err went is same kept) it says not = absurd (not (subst IsTold it is))
+
+  pub to-success : (status : Status) → To status → status ≡ Success → Prints left old new (IsShown view Success) × (told' ≡ told)
+  to-success status went it = to-out status Success went it tt (λ is. is)
+
+  pub to-unlawful : (status : Status) → To status → status ≡ Unlawful →
+      Prints left old new (IsShown view Unlawful) × (told' ≡ told)
+  to-unlawful status went it = to-out status Unlawful went it tt (λ is. is)
+
+  pub to-err : (status : Status) → To status → status ≡ Refused → Prints left told told' (IsShown view Refused) × (new ≡ old)
+  to-err status (went_out went other same kept) it = absurd (other it)
+  to-err status (went_err went is same kept) it =
+      (went-prints view left told told' reads reads' tells tells' status Refused went it tt, same)
+
+  pub to-comes : (status : Status) → To status → MayCome status
+  to-comes status (went_out went other same kept) = went-comes view left old new reads reads' writes writes' status went
+  to-comes status (went_err went is same kept) = went-comes view left told told' reads reads' tells tells' status went
+
+  pub to-words : (status : Status) → To status → status ≡ Words → ⊥
+  to-words status (went_out went other same kept) it = went-words view left old new reads reads' writes writes' status went it
+  to-words status (went_err went is same kept) it = went-words view left told told' reads reads' tells tells' status went it
+
+  pub to-read_fault : (status : Status) → To status → status ≡ ReadFault → Rose reads reads'
+  to-read_fault status (went_out went other same kept) it =
+      went-read_fault view left old new reads reads' writes writes' status went it
+  to-read_fault status (went_err went is same kept) it =
+      went-read_fault view left told told' reads reads' tells tells' status went it
+
+  pub to-write_fault : (status : Status) → To status → status ≡ WriteFault → Rose writes writes' ⊎ Rose tells tells'
+  to-write_fault status (went_out went other same kept) it =
+      inl (went-write_fault view left old new reads reads' writes writes' status went it)
+  to-write_fault status (went_err went is same kept) it =
+      inr (went-write_fault view left told told' reads reads' tells tells' status went it)
+
+  pub to-front : (status : Status) → To status → status ≡ WriteFault → PrintsFrontTo view left old new told told'
+  to-front status (went_out went other same kept) it =
+      inl (went-front view left old new reads reads' writes writes' status went it, same)
+  to-front status (went_err went is same kept) it =
+      inr (went-front view left told told' reads reads' tells tells' status went it, same)
+
+  pub to-nothing : (status : Status) → To status → (status ≡ ReadFault) ⊎ (status ≡ NoMemory) → Keeps old new × Keeps told told'
+  to-nothing status (went_out went other same kept) which = (
+    went-nothing view left old new reads reads' writes writes' status went which,
+    subst (λ (held : Option (List ℕ)). Keeps told held) (sym same) (keeps-same told),
+  )
+  to-nothing status (went_err went is same kept) which = (
+    subst (λ (held : Option (List ℕ)). Keeps old held) (sym same) (keeps-same old),
+    went-nothing view left told told' reads reads' tells tells' status went which,
+  )

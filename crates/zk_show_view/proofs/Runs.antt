@@ -2,6 +2,8 @@
 use Rattle.std.proofs.Common.{◌≡◌, ℕ, ◌+◌, ◌<◌, ◌≤◌, Ok, Err, List, [], ◌++◌, length, refl, sym, ap, subst, ◌∙◌, inl, arith}
 use Rattle.std.proofs.lemmas.List.{append-nil}
 use Rattle.zk_base.specs.Fronts.{StaysInFront}
+use Rattle.zk_base.specs.declared.errors.Status.{Status}
+use Rattle.zk_base.specs.declared.errors.Status.TheVariants.{Success, Words, Refused, Stuck, Spent, ReadFault, WriteFault, NoMemory, Unlawful}
 use Rattle.zk_scenario.specs.Content.{Content}
 use Rattle.zk_scenario.specs.Grammar.{scenario_of}
 use Rattle.zk_scenario.specs.Spelling.{text_of}
@@ -24,19 +26,32 @@ use Rattle.zk_forms.specs.declared.form.TheConstants.{LONGEST_TRACE}
 use Rattle.zk_forms.specs.CheckAnswer.{trace_refused}
 use Rattle.zk_forms.proofs.CheckAnswers.{trace-of, trace-refused}
 use Rattle.zk_show_view.specs.declared.view.View.{View}
-use Rattle.zk_show_view.specs.Shown.{IsRunOf, traced, played, IsViewOf, IsView, too_long, no_scenario, no_trace, HasNoRun}
+use Rattle.zk_show_view.specs.Shown.{IsRunOf, traced, played, IsViewOf, IsView, too_long, no_scenario, no_trace, HasNoRun, IsToldOfFront, IsShown, TellsEnd}
 use Rattle.zk_show_view.proofs.Outcomes.{never-long}
 
 -- a view of a trace that was read of the two parts
-pub traced-view : (view : View) (f : Format) (s : Content) (t : Trace) (front trace output : List ℕ) → scenario_of front ≡ Ok s → front ≡ text_of s → IsWritten Both s f t →
-    trace ≡ trace_text f s t → length (front ++ trace) ≤ LONGEST_TRACE → IsViewOf view f s t output → IsView view (front ++ trace) output
-traced-view view f s t front trace output read spelled written same short shows = record {
+pub traced-view : (view : View) (status : Status) (f : Format) (s : Content) (t : Trace) (front trace output : List ℕ) → scenario_of front ≡ Ok s → front ≡ text_of s → IsWritten Both s f t →
+    trace ≡ trace_text f s t → length (front ++ trace) ≤ LONGEST_TRACE → IsViewOf view status f s t output → IsView view status (front ++ trace) output
+traced-view view status f s t front trace output read spelled written same short shows = record {
   f = f;
   s = s;
   t = t;
   run = traced f (trace-of Both f s t front trace read spelled written same short);
   shows = shows;
 }
+
+-- what is told of an end goes with one of the two statuses of a view
+pub shown-view : (view : View) (status : Status) (s : Content) (t : Trace) (end input output : List ℕ) → TellsEnd status s t end →
+    IsView view status input output → IsShown view status input output
+shown-view view Success s t end input output tells is = is
+shown-view view Unlawful s t end input output tells is = is
+shown-view view Words s t end input output tells is = absurd tells
+shown-view view Refused s t end input output tells is = absurd tells
+shown-view view Stuck s t end input output tells is = absurd tells
+shown-view view Spent s t end input output tells is = absurd tells
+shown-view view ReadFault s t end input output tells is = absurd tells
+shown-view view WriteFault s t end input output tells is = absurd tells
+shown-view view NoMemory s t end input output tells is = absurd tells
 
 -- of a scenario alone nothing is a trace
 played-parts : (input : List ℕ) (s : Content) (t : Trace) → scenario_of input ≡ Ok s →
@@ -66,7 +81,7 @@ told-long input told long says = record {
 
 -- what is told of a front that is refused
 pub told-refused : (input front trace told : List ℕ) (line : ℕ) (why : Why) → length input ≤ LONGEST_TRACE → AreParts input front trace → scenario_of front ≡ Err (At line why) →
-    StaysInFront (refusal_head line why) told → HasNoRun input told
+    IsToldOfFront input line why told → HasNoRun input told
 told-refused input front trace told line why short parts read says = record {
   never = λ f s t run.
       let it = parts-of input f s t run in

@@ -1,2 +1,4 @@
 pub mod Views
 pub mod Shown
+pub mod Verdict
+pub mod Answers

@@ -1,5 +1,5 @@
 -- What is printed for an input: a view of its run, or why there is none.
-use Rattle.std.specs.Prelude.{◌≡◌, ℕ, ◌+◌, ◌<◌, ◌≤◌, Option, List, [], length, Ok, Err, IfSome}
+use Rattle.std.specs.Prelude.{◌≡◌, ◌⊎◌, ℕ, ◌+◌, ◌<◌, ◌≤◌, Bool, true, false, Option, List, [], ◌++◌, length, Ok, Err, IfSome}
 use Rattle.std.specs.Io.KnownBytes.{Appends, Keeps}
 use Rattle.zk_base.specs.Causes.{Rose}
 use Rattle.zk_base.specs.Fronts.{StaysInFront}
@@ -17,6 +17,7 @@ use Rattle.zk_trace.specs.declared.format.Format.TheVariants.{Two}
 use Rattle.zk_trace.specs.declared.format.Formats.TheVariants.{Both}
 use Rattle.zk_trace.specs.declared.trace.Trace.{Trace}
 use Rattle.zk_trace.specs.Feeds.{lines_in}
+use Rattle.zk_trace.specs.Lawful.{IsLawful}
 use Rattle.zk_trace.specs.Parting.{AreParts}
 use Rattle.zk_trace.specs.Text.{trace_text}
 use Rattle.zk_trace.specs.TraceRead.{IsRefusedAt}
@@ -31,8 +32,17 @@ use Rattle.zk_forms.specs.declared.form.TheConstants.{LONGEST_TRACE}
 use Rattle.zk_forms.specs.CheckAnswer.{IsTraceOf, trace_refused}
 use Rattle.zk_forms.specs.Output.{AppendsFront}
 use Rattle.zk_forms.specs.Top.{Prints}
+use Rattle.zk_show_view.specs.declared.answers.Answer.{Answer}
 use Rattle.zk_show_view.specs.declared.view.View.{View}
 use Rattle.zk_show_view.specs.declared.view.View.TheVariants as views
+use Rattle.zk_show_view.specs.Answers.{answer_text, asks_instead}
+use Rattle.zk_show_view.specs.Verdict.{IsVerdict}
+
+-- what is told of an input whose front is refused at a line as a scenario: that it is what `zk` says in place of a trace, or line and
+-- reason first
+pub data IsToldOfFront (input : List ℕ) (line : ℕ) (reason : Why) (output : List ℕ) : Type 0 where
+  an_answer : (answer : Answer) → input ≡ answer_text answer → output ≡ asks_instead answer → IsToldOfFront input line reason output
+  refused : StaysInFront (refusal_head line reason) output → IsToldOfFront input line reason output
 
 -- the run of an input, and the format of its trace: the trace behind its scenario, or of a scenario alone that by round robin
 pub data IsRunOf (input : List ℕ) (s : Content) (t : Trace) : Format → Type 0 where
@@ -47,27 +57,37 @@ trace_line s = length (lines_in (text_of s)) + 1
 abbrev pub IsItsChart : Format → Content → Trace → Chart → Type 0
 IsItsChart f s t chart = IsChart s t (trace_text f s t) (trace_line s) chart
 
--- a view of a trace: its chart in lines with why it ended so below, its chart as a picture, or why it ended so alone
-abbrev pub IsViewOf : View → Format → Content → Trace → List ℕ → Type 0
-IsViewOf views.Text f s t output =
-    (chart : Chart) × IsItsChart f s t chart × TellsWhy s.decls t (chart_text s.decls chart) output
-IsViewOf views.Svg f s t output =
-    (chart : Chart) × IsItsChart f s t chart × IsPicture (length (players s.decls)) chart output
-IsViewOf views.Why f s t output = TellsWhy s.decls t [] output
+-- what is told of the end of a run that goes with a status: of a lawful one why it ended so, of any other why it isn't lawful
+abbrev pub TellsEnd : Status → Content → Trace → List ℕ → Type 0
+TellsEnd statuses.Success s t end = IsLawful s t × TellsWhy s.decls t [] end
+TellsEnd statuses.Unlawful s t end = (IsLawful s t → ⊥) × IsVerdict s t end
+TellsEnd status s t end = ⊥
 
--- a view of the run of an input
-pub record IsView (view : View) (input output : List ℕ) : Type 0 where
+-- a view of a trace, by what is told of its end: its chart in lines with that below, its chart as a picture, or that alone
+abbrev pub IsViewWith : View → Format → Content → Trace → List ℕ → List ℕ → Type 0
+IsViewWith views.Text f s t end output =
+    (chart : Chart) × IsItsChart f s t chart × (output ≡ chart_text s.decls chart ++ end)
+IsViewWith views.Svg f s t end output =
+    (chart : Chart) × IsItsChart f s t chart × IsPicture (length (players s.decls)) chart output
+IsViewWith views.Why f s t end output = output ≡ end
+
+-- a view of a trace that goes with a status
+abbrev pub IsViewOf : View → Status → Format → Content → Trace → List ℕ → Type 0
+IsViewOf view status f s t output = (end : List ℕ) × TellsEnd status s t end × IsViewWith view f s t end output
+
+-- a view of the run of an input that goes with a status
+pub record IsView (view : View) (status : Status) (input output : List ℕ) : Type 0 where
   pub f : Format
   pub s : Content
   pub t : Trace
   pub run : IsRunOf input s t f
-  pub shows : IsViewOf view f s t output
+  pub shows : IsViewOf view status f s t output
 
 -- why an input has no run: it is too long, its front is refused as a scenario, or a line behind that can't stand in a trace
 pub data IsToldWhy (input output : List ℕ) : Type 0 where
   too_long : LONGEST_TRACE < length input → StaysInFront (refusal_head 0 reasons.Length) output → IsToldWhy input output
   no_scenario : (front trace : List ℕ) (line : ℕ) (reason : Why) → length input ≤ LONGEST_TRACE → AreParts input front trace →
-      scenario_of front ≡ Err (At line reason) → StaysInFront (refusal_head line reason) output → IsToldWhy input output
+      scenario_of front ≡ Err (At line reason) → IsToldOfFront input line reason output → IsToldWhy input output
   no_trace : (front trace : List ℕ) (s : Content) (line : ℕ) → length input ≤ LONGEST_TRACE → AreParts input front trace →
       0 < length trace →
       scenario_of front ≡ Ok s → IsRefusedAt Both s trace (1 + length (lines_in front)) line → output ≡ trace_refused line →
@@ -80,7 +100,8 @@ pub record HasNoRun (input output : List ℕ) : Type 0 where
 
 -- the whole output that goes with a status, for an input
 abbrev pub IsShown : View → Status → List ℕ → List ℕ → Type 0
-IsShown view statuses.Success input output = IsView view input output
+IsShown view statuses.Success input output = IsView view statuses.Success input output
+IsShown view statuses.Unlawful input output = IsView view statuses.Unlawful input output
 IsShown view statuses.Refused input output = HasNoRun input output
 IsShown view status input output = ⊥
 
@@ -88,7 +109,19 @@ IsShown view status input output = ⊥
 abbrev pub IsSaid : Status → Type 0
 IsSaid statuses.Success = Unit {0}
 IsSaid statuses.Refused = Unit {0}
+IsSaid statuses.Unlawful = Unit {0}
 IsSaid status = ⊥
+
+-- whether an input was refused
+abbrev pub is_refused : Status → Bool
+is_refused statuses.Refused = true
+is_refused status = false
+
+-- the statuses of what the second sink gets
+abbrev pub IsTold : Status → Type 0
+IsTold statuses.Refused = Unit {0}
+IsTold statuses.WriteFault = Unit {0}
+IsTold status = ⊥
 
 -- all statuses that may come
 abbrev pub MayCome : Status → Type 0
@@ -119,3 +152,24 @@ pub data Went (view : View) (left old new : Option (List ℕ)) (reads reads' wri
       Went view left old new reads reads' writes writes' statuses.WriteFault
   unread : Rose reads reads' → Keeps old new → Went view left old new reads reads' writes writes' statuses.ReadFault
   no_memory : Keeps old new → Went view left old new reads reads' writes writes' statuses.NoMemory
+
+-- how the output for an input went: what is refused to the second sink, all else to the first; the other one stays
+pub data ShowsTo (view : View) (input : List ℕ) (old new told told' : Option (List ℕ)) (writes writes' tells tells' : ℕ)
+    (status : Status) : Type 0 where
+  shows_out : Shows view input old new writes writes' status → (status ≡ statuses.Refused → ⊥) → told' ≡ told → tells' ≡ tells →
+      ShowsTo view input old new told told' writes writes' tells tells' status
+  shows_err : Shows view input told told' tells tells' status → IsTold status → new ≡ old → writes' ≡ writes →
+      ShowsTo view input old new told told' writes writes' tells tells' status
+
+-- how a call went that asked for a view, of both sinks
+pub data WentTo (view : View) (left old new told told' : Option (List ℕ)) (reads reads' writes writes' tells tells' : ℕ)
+    (status : Status) : Type 0 where
+  went_out : Went view left old new reads reads' writes writes' status → (status ≡ statuses.Refused → ⊥) → told' ≡ told →
+      tells' ≡ tells → WentTo view left old new told told' reads reads' writes writes' tells tells' status
+  went_err : Went view left told told' reads reads' tells tells' status → IsTold status → new ≡ old → writes' ≡ writes →
+      WentTo view left old new told told' reads reads' writes writes' tells tells' status
+
+-- a sink got a front of an output for an input, and the other one stays
+abbrev pub PrintsFrontTo : View → Option (List ℕ) → Option (List ℕ) → Option (List ℕ) → Option (List ℕ) → Option (List ℕ) → Type 0
+PrintsFrontTo view left old new told told' =
+    (PrintsFront view left old new × (told' ≡ told)) ⊎ (PrintsFront view left told told' × (new ≡ old))

@@ -16,87 +16,130 @@ ghost use Rattle.zk_forms.specs.Top.{Prints, words_refused};
 ghost use Rattle.zk_show_view.specs.declared.view.View.{View};
 ghost use Rattle.zk_show_view.specs.declared.view.View.TheVariants as views;
 ghost use Rattle.zk_show_view.specs.Views.{view_of};
-ghost use Rattle.zk_show_view.specs.Shown.{IsShown, IsViewOf, MayCome, PrintsFront, Shows, Went, trace_line};
+ghost use Rattle.zk_show_view.specs.Shown.{IsShown, IsToldOfFront, IsViewWith, MayCome, PrintsFrontTo, ShowsTo, TellsEnd, WentTo, is_refused, trace_line};
 
+use crate::answers::{answer_of, asking};
+use crate::verdict::{end_of_run, why_of_run};
 use crate::view::{View, view_of};
 use std::alloc::Global;
-use zk_base::{NoMemory, Sink, Source, Status};
+use zk_base::{NoMemory, Sink, Source, Status, put};
 use zk_forms::{LONGEST_TRACE, NoInput, read_input, trace_refusal, write_text};
 use zk_replay::replay;
 use zk_scenario::{Scenario, ScenarioRefused, Why, read_scenario};
 use zk_show_chart::chart_of;
 use zk_show_svg::put_svg;
 use zk_show_text::put_text;
-use zk_show_why::{put_refusal, put_why};
+use zk_show_why::put_refusal;
 use zk_trace::{Formats, Trace, TraceRefused, line_count, put_trace, read_trace, split_text};
 
-/// The program `zk_show` over any source and any sink: it reads a scenario with a trace behind it, as `replay` and `run` print
-/// it, and shows the run. A scenario alone is played by round robin first.
+/// The program `zk_show` over any source and any two sinks: it reads a scenario with a trace behind it, as `replay` and `run` print
+/// it, and shows the run on the first. A scenario alone is played by round robin first. A trace behind it is judged first: of one
+/// that isn't lawful the line and the reason stand where else it is said how the run ended, and the status is `Unlawful`.
 ///
-/// A scenario that is refused is told of at length, whatever the view, and a trace that can't be read by the line that `check`
-/// prints: status 2. Nothing is written before all is read.
-pub fn zk_show<S: Source, K: Sink>(
+/// What is refused is told on the second sink: of a scenario at length, whatever the view; of a trace that can't be read by the
+/// line that `check` prints; of what `zk` itself says in place of a trace that it is that. Nothing is written before all is read.
+pub fn zk_show<S: Source, K: Sink, E: Sink>(
     alloc: Global,
     words: &[String],
     source: &mut S,
     sink: &mut K,
+    errors: &mut E,
 ) -> Status
-    // What each status that prints says of the input and the output.
+    // What each status that prints says of the input and the output, which goes to the one sink or the other.
     ensures success { (view : View) → view_of (map string_bytes words.now) ≡ Some view → result ≡ Status.Success →
-        Prints (S.left source.old) (K.held sink.old) (K.held sink.new) (IsShown view Status.Success) }
+        Prints (S.left source.old) (K.held sink.old) (K.held sink.new) (IsShown view Status.Success)
+        × (E.held errors.new ≡ E.held errors.old) }
+    ensures unlawful { (view : View) → view_of (map string_bytes words.now) ≡ Some view → result ≡ Status.Unlawful →
+        Prints (S.left source.old) (K.held sink.old) (K.held sink.new) (IsShown view Status.Unlawful)
+        × (E.held errors.new ≡ E.held errors.old) }
     ensures refused { (view : View) → view_of (map string_bytes words.now) ≡ Some view → result ≡ Status.Refused →
-        Prints (S.left source.old) (K.held sink.old) (K.held sink.new) (IsShown view Status.Refused) }
+        Prints (S.left source.old) (E.held errors.old) (E.held errors.new) (IsShown view Status.Refused)
+        × (K.held sink.new ≡ K.held sink.old) }
     ensures words { result ≡ Status.Words → (view_of (map string_bytes words.now) ≡ None)
-        × Appends (K.held sink.old) (K.held sink.new) words_refused }
+        × Appends (E.held errors.old) (E.held errors.new) words_refused × (K.held sink.new ≡ K.held sink.old) }
 
     // When each status comes.
     ensures no_view { view_of (map string_bytes words.now) ≡ None → (result ≡ Status.Words) ⊎ (result ≡ Status.WriteFault) }
     ensures only { MayCome result }
     ensures read_fault { result ≡ Status.ReadFault → Rose (S.faults source.old) (S.faults source.new) }
-    ensures write_fault { result ≡ Status.WriteFault → Rose (K.faults sink.old) (K.faults sink.new) }
+    ensures write_fault { result ≡ Status.WriteFault →
+        Rose (K.faults sink.old) (K.faults sink.new) ⊎ Rose (E.faults errors.old) (E.faults errors.new) }
 
     // Each count of faults stays but for its own status.
     ensures reads { result ≢ Status.ReadFault → S.faults source.new ≡ S.faults source.old }
-    ensures writes { result ≢ Status.WriteFault → K.faults sink.new ≡ K.faults sink.old }
+    ensures writes { result ≢ Status.WriteFault →
+        (K.faults sink.new ≡ K.faults sink.old) × (E.faults errors.new ≡ E.faults errors.old) }
 
     // However it ends, no more is taken of the source than one byte above the limit.
     ensures most { GaveAtMost (LONGEST_TRACE + 1) (S.left source.old) (S.left source.new) }
 
     // Where nothing, or not all, was written.
     ensures nothing { (result ≡ Status.ReadFault) ⊎ (result ≡ Status.NoMemory) →
-        Keeps (K.held sink.old) (K.held sink.new) }
+        Keeps (K.held sink.old) (K.held sink.new) × Keeps (E.held errors.old) (E.held errors.new) }
     ensures front { (view : View) → view_of (map string_bytes words.now) ≡ Some view → result ≡ Status.WriteFault →
-        PrintsFront view (S.left source.old) (K.held sink.old) (K.held sink.new) }
+        PrintsFrontTo view (S.left source.old) (K.held sink.old) (K.held sink.new) (E.held errors.old) (E.held errors.new) }
 {
     match view_of(words) {
-        Some(view) => answer(alloc, view, source, sink),
-        None => write_made(sink, b"refused words\n", Status::Words),
+        Some(view) => answer(alloc, view, source, sink, errors),
+        None => write_made(errors, b"refused words\n", Status::Words),
     }
 }
 
 /// Reads the input, and prints a view of it.
-fn answer<S: Source, K: Sink>(alloc: Global, view: View, source: &mut S, sink: &mut K) -> Status
-    ensures went { Went view (S.left source.old) (K.held sink.old) (K.held sink.new)
-        (S.faults source.old) (S.faults source.new) (K.faults sink.old) (K.faults sink.new) result }
+fn answer<S: Source, K: Sink, E: Sink>(
+    alloc: Global,
+    view: View,
+    source: &mut S,
+    sink: &mut K,
+    errors: &mut E,
+) -> Status
+    ensures went { WentTo view (S.left source.old) (K.held sink.old) (K.held sink.new) (E.held errors.old) (E.held errors.new)
+        (S.faults source.old) (S.faults source.new) (K.faults sink.old) (K.faults sink.new)
+        (E.faults errors.old) (E.faults errors.new) result }
     ensures reads { result ≢ Status.ReadFault → S.faults source.new ≡ S.faults source.old }
-    ensures writes { result ≢ Status.WriteFault → K.faults sink.new ≡ K.faults sink.old }
+    ensures writes { result ≢ Status.WriteFault →
+        (K.faults sink.new ≡ K.faults sink.old) × (E.faults errors.new ≡ E.faults errors.old) }
     ensures most { GaveAtMost (LONGEST_TRACE + 1) (S.left source.old) (S.left source.new) }
 {
     match read_input(alloc, source, LONGEST_TRACE) {
-        Ok(input) => show(alloc, view, input, sink),
+        Ok(input) => show(alloc, view, input, sink, errors),
         Err(NoInput::Fault) => Status::ReadFault,
         Err(NoInput::NoMemory) => Status::NoMemory,
     }
 }
 
-/// Prints a view of an input.
-fn show<K: Sink>(alloc: Global, view: View, input: Vec<u8>, sink: &mut K) -> Status
-    ensures shows { Shows view input.items (K.held sink.old) (K.held sink.new) (K.faults sink.old) (K.faults sink.new) result }
-    ensures writes { result ≢ Status.WriteFault → K.faults sink.new ≡ K.faults sink.old }
+/// Prints a view of an input, or why it has none.
+fn show<K: Sink, E: Sink>(
+    alloc: Global,
+    view: View,
+    input: Vec<u8>,
+    sink: &mut K,
+    errors: &mut E,
+) -> Status
+    ensures shows { ShowsTo view input.items (K.held sink.old) (K.held sink.new) (E.held errors.old) (E.held errors.new)
+        (K.faults sink.old) (K.faults sink.new) (E.faults errors.old) (E.faults errors.new) result }
+    ensures writes { result ≢ Status.WriteFault →
+        (K.faults sink.new ≡ K.faults sink.old) × (E.faults errors.new ≡ E.faults errors.old) }
 {
     match shown(alloc, view, input) {
-        Ok((output, status)) => write_made(sink, &output, status),
+        Ok((output, status)) => {
+            if is_refused(status) {
+                write_made(errors, &output, status)
+            } else {
+                write_made(sink, &output, status)
+            }
+        }
         Err(NoMemory) => Status::NoMemory,
+    }
+}
+
+/// Whether an input was refused.
+fn is_refused(status: Status) -> bool
+    ensures { result ≡ is_refused status }
+{
+    match status {
+        Status::Refused => true,
+        _ => false,
     }
 }
 
@@ -124,10 +167,34 @@ fn shown(alloc: Global, view: View, input: Vec<u8>) -> Result<(Vec<u8>, Status),
     match read_scenario(alloc, front) {
         Ok(scenario) => run_shown(alloc, view, &scenario, front, trace),
         Err(ScenarioRefused::At(line, why)) => {
-            Ok((refusal(alloc, front, line, why)?, Status::Refused))
+            Ok((
+                no_scenario(alloc, &input, front, line, why)?,
+                Status::Refused,
+            ))
         }
         Err(ScenarioRefused::NoMemory) => Err(NoMemory),
     }
+}
+
+/// What is said of an input whose front is refused as a scenario at this line.
+fn no_scenario(
+    alloc: Global,
+    input: &[u8],
+    front: &[u8],
+    line: u32,
+    why: Why,
+) -> Result<Vec<u8>, NoMemory>
+    ensures { IfOk result (λ told. IsToldOfFront input.now line why told.items) }
+{
+    match answer_of(alloc, input)? {
+        Some(answer) => Ok(asking(alloc, answer)?),
+        None => refusal(alloc, told_text(input, front), line, why),
+    }
+}
+
+/// The text whose line is shown: the whole input where it has no scenario at all.
+fn told_text<'a>(input: &'a [u8], front: &'a [u8]) -> &'a [u8] {
+    if front.is_empty() { input } else { front }
 }
 
 /// What is said of a scenario that is refused at this line.
@@ -173,9 +240,10 @@ fn played(
 {
     let first_line = line_count(text) as u32 + 1;
     let trace = replay(alloc, scenario)?;
+    let end = why_of_run(alloc, scenario, &trace)?;
     let mut printed = Vec::new(alloc);
     put_trace(&mut printed, scenario, &trace)?;
-    let output = view_of_run(alloc, view, scenario, &trace, &printed, first_line)?;
+    let output = view_of_run(alloc, view, scenario, &trace, &printed, first_line, end)?;
     Ok((output, Status::Success))
 }
 
@@ -197,15 +265,16 @@ fn traced(
     let first_line = line_count(front) as u32 + 1;
     match read_trace(alloc, scenario, Formats::Both, text, first_line) {
         Ok(trace) => {
-            let output = view_of_run(alloc, view, scenario, &trace, text, first_line)?;
-            Ok((output, Status::Success))
+            let (end, status) = end_of_run(alloc, scenario, &trace)?;
+            let output = view_of_run(alloc, view, scenario, &trace, text, first_line, end)?;
+            Ok((output, status))
         }
         Err(TraceRefused::At(line)) => Ok((trace_refusal(alloc, line)?, Status::Refused)),
         Err(TraceRefused::NoMemory) => Err(NoMemory),
     }
 }
 
-/// A view of a trace, whose text begins with the line of this number.
+/// A view of a trace, whose text begins with the line of this number, by what is told of its end.
 fn view_of_run(
     alloc: Global,
     view: View,
@@ -213,64 +282,57 @@ fn view_of_run(
     trace: &Trace,
     text: &[u8],
     first_line: u32,
+    end: Vec<u8>,
 ) -> Result<Vec<u8>, NoMemory>
     requires form { IsInForm scenario.now trace.now }
     requires first { first_line ≡ trace_line scenario.now }
     ensures { (f : Format) → text.now ≡ trace_text f scenario.now trace.now →
-        IfOk result (λ output. IsViewOf view f scenario.now trace.now output.items) }
+        IfOk result (λ output. IsViewWith view f scenario.now trace.now end.items output.items) }
 {
     match view {
-        View::Text => text_of_run(alloc, scenario, trace, text, first_line),
-        View::Svg => svg_of_run(alloc, scenario, trace, text, first_line),
-        View::Why => why_of_run(alloc, scenario, trace),
+        View::Text => text_of_run(alloc, scenario, trace, text, first_line, &end),
+        View::Svg => svg_of_run(alloc, scenario, trace, text, first_line, &end),
+        View::Why => Ok(end),
     }
 }
 
-/// The chart of a trace in lines, and why the run ended so.
+/// The chart of a trace in lines, and what is told of its end.
 fn text_of_run(
     alloc: Global,
     scenario: &Scenario,
     trace: &Trace,
     text: &[u8],
     first_line: u32,
+    end: &[u8],
 ) -> Result<Vec<u8>, NoMemory>
     requires form { IsInForm scenario.now trace.now }
     requires first { first_line ≡ trace_line scenario.now }
     ensures { (f : Format) → text.now ≡ trace_text f scenario.now trace.now →
-        IfOk result (λ output. IsViewOf views.Text f scenario.now trace.now output.items) }
+        IfOk result (λ output. IsViewWith views.Text f scenario.now trace.now end.now output.items) }
 {
     let chart = chart_of(alloc, scenario, trace, text, first_line)?;
     let mut out = Vec::new(alloc);
     put_text(&mut out, scenario, &chart)?;
-    put_why(&mut out, scenario, trace)?;
+    put(&mut out, end)?;
     Ok(out)
 }
 
-/// The picture of a trace.
+/// The picture of a trace, and what is told of its end.
 fn svg_of_run(
     alloc: Global,
     scenario: &Scenario,
     trace: &Trace,
     text: &[u8],
     first_line: u32,
+    end: &[u8],
 ) -> Result<Vec<u8>, NoMemory>
     requires form { IsInForm scenario.now trace.now }
     requires first { first_line ≡ trace_line scenario.now }
     ensures { (f : Format) → text.now ≡ trace_text f scenario.now trace.now →
-        IfOk result (λ output. IsViewOf views.Svg f scenario.now trace.now output.items) }
+        IfOk result (λ output. IsViewWith views.Svg f scenario.now trace.now end.now output.items) }
 {
-    let notes = why_of_run(alloc, scenario, trace)?;
     let chart = chart_of(alloc, scenario, trace, text, first_line)?;
     let mut out = Vec::new(alloc);
-    put_svg(&mut out, scenario, &chart, &notes)?;
-    Ok(out)
-}
-
-/// Why a run ended so, in sentences.
-fn why_of_run(alloc: Global, scenario: &Scenario, trace: &Trace) -> Result<Vec<u8>, NoMemory>
-    ensures { (f : Format) → IfOk result (λ output. IsViewOf views.Why f scenario.now trace.now output.items) }
-{
-    let mut out = Vec::new(alloc);
-    put_why(&mut out, scenario, trace)?;
+    put_svg(&mut out, scenario, &chart, end)?;
     Ok(out)
 }

@@ -28,5 +28,9 @@ returns c =
       s = s;
       t = t;
       run = played c.requires.short c.requires.read c.in_ok-trace.ensures.replay;
-      shows = c.in_ok-output.ensures Two (c.deref.ensures.value ∙ text);
+      shows = (
+        c.in_ok-end.end.items,
+        (c.in_ok-trace.ensures.lawful, c.in_ok-end.ensures),
+        c.in_ok-output.ensures Two (c.deref.ensures.value ∙ text),
+      );
     }

@@ -1,10 +1,10 @@
-use Rattle.std.proofs.Common.{◌≡◌, ℕ, ◌+◌, length, arith, subst}
+use Rattle.std.proofs.Common.{◌≡◌, ℕ, ◌+◌, ◌++◌, length, arith, subst}
 use Rattle.zk_trace.specs.declared.format.Formats.TheVariants.{Both}
 use Rattle.zk_trace.specs.Feeds.{lines_in}
 use Rattle.zk_trace.specs.TraceRead.{IsRefusedAt}
 use Rattle.zk_forms.proofs.CheckAnswers.{lines-few}
 use Rattle.zk_forms.specs.CheckAnswer.{trace_refused}
-use Rattle.zk_show_view.proofs.Runs.{traced-view, told-trace}
+use Rattle.zk_show_view.proofs.Runs.{shown-view, traced-view, told-trace}
 use Rattle.zk_show_view.proofs.show.traced.Goals as goal
 
 pub overflow_cast-first_line : goal.overflow_cast-first_line
@@ -34,5 +34,8 @@ returns-in_ok-trace_refusal-in-Err-At c =
 pub returns-in_ok-output-in-Ok : goal.returns-in_ok-output-in-Ok
 returns-in_ok-output-in-Ok c =
     let found = c.in-Ok.ensures.found in
-    traced-view c.args.view found.0 c.args.scenario.now c.in-Ok.trace c.args.front.now c.args.text.now c.in_ok-output-in-Ok.output.items
-    c.requires.read c.requires.spelled found.1 found.2 c.requires.short (c.in_ok-output-in-Ok.ensures found.0 found.2)
+    shown-view c.args.view c.in_ok-end-in-Ok.status c.args.scenario.now c.in-Ok.trace c.in_ok-end-in-Ok.end.items
+    (c.args.front.now ++ c.args.text.now) c.in_ok-output-in-Ok.output.items c.in_ok-end-in-Ok.ensures
+    (traced-view c.args.view c.in_ok-end-in-Ok.status found.0 c.args.scenario.now c.in-Ok.trace c.args.front.now c.args.text.now c.in_ok-output-in-Ok.output.items
+    c.requires.read c.requires.spelled found.1 found.2 c.requires.short
+    (c.in_ok-end-in-Ok.end.items, c.in_ok-end-in-Ok.ensures, c.in_ok-output-in-Ok.ensures found.0 found.2))
