@@ -19,7 +19,8 @@ use Rattle.zk_feed.proofs.Opens.{opens-joined, told-before}
 use Rattle.zk_feed.proofs.Places.{at-end, at-last}
 
 -- one row more
-pub rows-push : (subs : List MsgSub) (n : ℕ) (rows : List (Vec PubSeat Global)) (row : Vec PubSeat Global) → AreRows subs n rows →
+pub rows-push : (subs : List MsgSub) (n : ℕ) (rows : List (Vec PubSeat Global)) (row : Vec PubSeat Global) →
+    AreRows subs n rows →
     IsRow subs (length rows) (messages n) row.items → AreRows subs n (rows ++ row ∷ [])
 rows-push subs n rows row are one = record {
   each = λ p r at. ⊎_elim (λ before. are.each p r before)
@@ -60,7 +61,8 @@ module _ (f : Shared) (p : ℕ) (publisher : Publisher) (pass : FanPass) (row : 
   }
 
   -- and one more
-  pub gathered-more : (all new : FanPass) (rows : List (Vec PubSeat Global)) → IsGathered f p all rows → JoinsTwo f all pass new →
+  pub gathered-more : (all new : FanPass) (rows : List (Vec PubSeat Global)) → IsGathered f p all rows →
+      JoinsTwo f all pass new →
       IsGathered f (p + 1) new (rows ++ row ∷ [])
   gathered-more all new rows are joins =
       let one = one-player in

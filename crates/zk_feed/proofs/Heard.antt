@@ -34,13 +34,15 @@ subs-pop size subs takers m t are =
         each = λ k m' t' at there. are.each k m' t' (at-front subs (m ∷ []) m' k at) (at-front takers (t ∷ []) t' k there);
       },
       All-head (IsSubOf size) m [] (All-back (IsSubOf size) subs (m ∷ []) are.all),
-      are.each (length subs) m t (at-end subs [] m) (subst (λ (k : ℕ). slice_get (takers ++ t ∷ []) k ≡ Some t) same (at-end takers [] t)),
+      are.each (length subs) m t (at-end subs [] m) (subst (λ (k : ℕ). slice_get (takers ++ t ∷ []) k ≡ Some t) same
+          (at-end takers [] t)),
     )
 
 module _ (subs : List MsgSub) (m : MsgSub) (n : ℕ) (old new : List Seats) (lasts : List PubSeat)
     (are : AreRows (subs ++ m ∷ []) n old) (taken : HasTaken old new lasts) where
   -- one row without its last seat, which is the last subscriber's
-  one-row : (p : ℕ) (o r : Seats) (s : PubSeat) → slice_get old p ≡ Some o → slice_get new p ≡ Some r → slice_get lasts p ≡ Some s →
+  one-row : (p : ℕ) (o r : Seats) (s : PubSeat) → slice_get old p ≡ Some o → slice_get new p ≡ Some r →
+      slice_get lasts p ≡ Some s →
       IsRow subs p (messages n) r.items × IsSeatOf m s × HasSeat p (messages n) s
   one-row p o r s at there here =
       let row = are.each p o at in
@@ -54,11 +56,13 @@ module _ (subs : List MsgSub) (m : MsgSub) (n : ℕ) (old new : List Seats) (las
         record {
           own = record {
             many = same;
-            each = λ k m' s' at' there'. own.each k m' s' (at-front subs (m ∷ []) m' k at') (at-front r.items (s ∷ []) s' k there');
+            each = λ k m' s' at' there'. own.each k m' s' (at-front subs (m ∷ []) m' k at')
+                (at-front r.items (s ∷ []) s' k there');
           };
           each = All-front (HasSeat p (messages n)) r.items (s ∷ []) each;
         },
-        own.each (length subs) m s (at-end subs [] m) (subst (λ (k : ℕ). slice_get (r.items ++ s ∷ []) k ≡ Some s) same (at-end r.items [] s)),
+        own.each (length subs) m s (at-end subs [] m)
+            (subst (λ (k : ℕ). slice_get (r.items ++ s ∷ []) k ≡ Some s) same (at-end r.items [] s)),
         All-head (HasSeat p (messages n)) s [] (All-back (HasSeat p (messages n)) r.items (s ∷ []) each),
       )
 
@@ -98,7 +102,8 @@ module _ (subs : List MsgSub) (m : MsgSub) (n : ℕ) (old new : List Seats) (las
             let r = at-some new p (omega arith) in
             let s = at-some lasts p (omega arith) in
             let has = (one-row p o.0 r.0 s.0 o.1 r.1 s.1).2 in
-            let is = All-at (λ s. part (seat_publisher s) (sub_taken taker ++ left) ≡ numbered (seat_publisher s) (seat_sent s)) lasts p s.0 parts s.1 in
+            let is = All-at (λ s. part (seat_publisher s) (sub_taken taker ++ left) ≡ numbered (seat_publisher s)
+            (seat_sent s)) lasts p s.0 parts s.1 in
             ap (λ l. part p l) (sym whole)
             ∙ ap (λ (q : ℕ). part q (sub_taken taker ++ left)) (sym has.publisher)
             ∙ is

@@ -36,7 +36,8 @@ Seats = Vec PubSeat Global
 
 has-push : (xs : List Who) (w : Who) (n : ℕ) → has (xs ++ w ∷ []) n ≡ (has xs n || ((w.number == n) || false))
 has-push [] w n = refl
-has-push (x ∷ xs) w n = ap (λ (b : Bool). (x.number == n) || b) (has-push xs w n) ∙ assoc (x.number == n) (has xs n) ((w.number == n) || false)
+has-push (x ∷ xs) w n = ap (λ (b : Bool). (x.number == n) || b) (has-push xs w n)
+    ∙ assoc (x.number == n) (has xs n) ((w.number == n) || false)
   where
     assoc : (a b c : Bool) → (a || (b || c)) ≡ ((a || b) || c)
     assoc true b c = refl
@@ -84,7 +85,8 @@ players-many (suc n) =
 -- Subscribers.
 
 -- one subscriber more
-pub subs-push : (size : FeedSize) (subs : List MsgSub) (takers : List SubSeat) (m : MsgSub) (t : SubSeat) → AreSubs size subs takers →
+pub subs-push : (size : FeedSize) (subs : List MsgSub) (takers : List SubSeat) (m : MsgSub) (t : SubSeat) →
+    AreSubs size subs takers →
     IsSubOf size m → IsIdle m t → AreSubs size (subs ++ m ∷ []) (takers ++ t ∷ [])
 subs-push size subs takers m t are one idle =
     let many = are.many in
@@ -185,7 +187,8 @@ module _ (size : FeedSize) (subs : List MsgSub) (n : ℕ) (old new : List Seats)
 pub rows-none : (size : FeedSize) (subs : List MsgSub) → AreNewRows size subs size.publishers []
 rows-none size subs = record { many = omega arith; each = λ k p r at. absurd (cc) }
 
-pub new-rows-push : (size : FeedSize) (subs : List MsgSub) (n : ℕ) (rows : List Seats) (row : Seats) → AreNewRows size subs (suc n) rows →
+pub new-rows-push : (size : FeedSize) (subs : List MsgSub) (n : ℕ) (rows : List Seats) (row : Seats) →
+    AreNewRows size subs (suc n) rows →
     IsNewRow subs size.messages n row.items → AreNewRows size subs n (rows ++ row ∷ [])
 new-rows-push size subs n rows row are one =
     let many = are.many in
@@ -201,7 +204,8 @@ new-rows-push size subs n rows row are one =
     }
 
 -- the last row, and those before it
-pub new-rows-pop : (size : FeedSize) (subs : List MsgSub) (n : ℕ) (rows front : List Seats) (row : Seats) → rows ≡ front ++ row ∷ [] →
+pub new-rows-pop : (size : FeedSize) (subs : List MsgSub) (n : ℕ) (rows front : List Seats) (row : Seats) →
+    rows ≡ front ++ row ∷ [] →
     AreNewRows size subs n rows → AreNewRows size subs (suc n) front × IsNewRow subs size.messages n row.items
 new-rows-pop size subs n rows front row is all =
     let are = subst (AreNewRows size subs n) is all in
@@ -220,7 +224,8 @@ new-rows-pop size subs n rows front row is all =
 abbrev pub IsFresh : FanCell → FanPass → Type 0
 IsFresh c p = (w : Who) × IsNewPass (IsLegal fan_machine) fan_start c w p
 
-pub new-passes : (c : FanCell) (players : List Who) (passes : List FanPass) → AreNewPasses (IsLegal fan_machine) fan_start c players passes →
+pub new-passes : (c : FanCell) (players : List Who) (passes : List FanPass) →
+    AreNewPasses (IsLegal fan_machine) fan_start c players passes →
     (length passes ≡ length players) × All (IsFresh c) passes
 new-passes c [] [] are = (refl, All-nil (IsFresh c))
 new-passes c [] (p ∷ ps) are = absurd are
@@ -255,14 +260,16 @@ starts-feeding f p publisher pass seats who fresh new there is own =
       own = own;
       room = omega arith;
       opens = λ q at. subst (λ (r : FanPass). All (λ e. is_by (pass_players r) e ≡ true → e.op ≡ Open) (pass_seen r))
-          (same_Some pass q (sym there ∙ at)) (subst (λ h. All (λ e. is_by (pass_players pass) e ≡ true → e.op ≡ Open) h) (sym fresh.seen)
+          (same_Some pass q (sym there ∙ at)) (subst (λ h. All (λ e. is_by (pass_players pass) e ≡ true → e.op ≡ Open) h)
+          (sym fresh.seen)
           (All-nil (λ (e : Entry FanOp FanReply). is_by (pass_players pass) e ≡ true → e.op ≡ Open)));
       told = λ q at told. subst (All (λ s. seat_sent s ≡ [])) (sym is)
           (All-weaker (HasSeat p []) (λ s. seat_sent s ≡ []) (λ s has. has.is_sent) seats new.row.each);
       whose = subst (All (λ s. seat_publisher s ≡ p)) (sym is)
           (All-weaker (HasSeat p []) (λ s. seat_publisher s ≡ p) (λ s has. has.publisher) seats new.row.each);
       rooms = subst (All (λ s. f.size.messages ≤ seat_room s + 0)) (sym is)
-          (All-weaker (λ s. f.size.messages ≤ seat_room s) (λ s. f.size.messages ≤ seat_room s + 0) (λ s le. omega arith) seats new.rooms);
+          (All-weaker (λ s. f.size.messages ≤ seat_room s) (λ s. f.size.messages ≤ seat_room s + 0) (λ s le. omega arith)
+          seats new.rooms);
     }
 
 -- what is taken of columns that have seats
@@ -289,7 +296,8 @@ columns-some n subs columns some are = All-places (λ c. 0 < vec_len c) columns 
 -- a feed before its first message
 pub opened : (size : FeedSize) (fan : FanCell) (subs : Vec MsgSub Global) (takers : List SubSeat) → IsInRange size →
     fan_start (given_to fan) ≡ new_fan (upto size.subscribers) → players_in fan ≡ players_upto size.publishers →
-    length subs.items ≡ size.subscribers → AreSubs size subs.items takers → IsOpen (record { size = size; fan = fan; subs = subs })
+    length subs.items ≡ size.subscribers → AreSubs size subs.items takers →
+    IsOpen (record { size = size; fan = fan; subs = subs })
 opened size fan subs takers range start players many are = record {
   range = range;
   start = start;

@@ -68,7 +68,8 @@ opens-both xs ys h one other k d within by =
     (or-cases (has xs n) (has ys n) (sym (has-append xs ys n) ∙ by))
 
 -- a pass that two were put into
-pub opens-joined : (f : Shared) (all pass new : FanPass) → JoinsTwo f all pass new → OpensAlone all → OpensAlone pass → OpensAlone new
+pub opens-joined : (f : Shared) (all pass new : FanPass) → JoinsTwo f all pass new → OpensAlone all → OpensAlone pass →
+    OpensAlone new
 opens-joined f all pass new joins one other =
     subst (λ (players : List Who). AreOpens players (pass_seen new)) (sym joins.players)
     (opens-both (pass_players all) (pass_players pass) (pass_seen new)
@@ -87,7 +88,8 @@ all-told f pass stands opens mine legal =
     (subst (λ (s : Roster). IsLegal fan_machine s seen) stands.start legal) all
 
 -- and so the rows are those of all messages
-pub all-rows : (f : Shared) (many : ℕ) (pass : FanPass) (rows : List (Vec PubSeat Global)) → IsOpen f → IsGathered f many pass rows →
+pub all-rows : (f : Shared) (many : ℕ) (pass : FanPass) (rows : List (Vec PubSeat Global)) → IsOpen f →
+    IsGathered f many pass rows →
     pass_mine pass ≡ pass_seen pass → IsLegal fan_machine (fan_start (given_to f.fan)) (pass_seen pass) →
     AreRows f.subs.items f.size.messages rows
 all-rows f many pass rows stands are mine legal = are.told (all-told f pass stands are.opens mine legal)

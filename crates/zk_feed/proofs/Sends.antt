@@ -43,7 +43,8 @@ is-upto (suc n) k below = list_any-append (λ m. m == k) (upto n) (n ∷ []) ∙
   where
     by : (k < n → is_in (upto n) k ≡ true) → (k < n) ⊎ (n ≤ k) → (is_in (upto n) k || ((n == k) || false)) ≡ true
     by fewer (inl less) = ap (λ (b : Bool). b || ((n == k) || false)) (fewer less)
-    by fewer (inr more) = ap (λ (b : Bool). is_in (upto n) k || (b || false)) (eq-eqb n k (omega arith)) ∙ or-true (is_in (upto n) k)
+    by fewer (inr more) = ap (λ (b : Bool). is_in (upto n) k || (b || false)) (eq-eqb n k (omega arith))
+        ∙ or-true (is_in (upto n) k)
 
 module _ (f : Shared) (stands : IsOpen f) where
   -- whether it took the copy or not, a seat stays its publisher's
@@ -59,7 +60,8 @@ module _ (f : Shared) (stands : IsOpen f) where
   one-took true m ms s s' of took = took.sent
   one-took false m ms s s' of full =
       let never = full.never in
-      let same = of.capacity ∙ sym (ap (λ (n : ℕ). n * f.size.messages) of.publishers) ∙ sym (ap (λ (n : ℕ). sub_publishers m * n) of.each) in
+      let same = of.capacity ∙ sym (ap (λ (n : ℕ). n * f.size.messages) of.publishers)
+      ∙ sym (ap (λ (n : ℕ). sub_publishers m * n) of.each) in
       absurd (omega (arith, never, same))
 
   -- where the open told of all subscribers, each of them took the copy
@@ -80,7 +82,8 @@ module _ (f : Shared) (stands : IsOpen f) where
       let after : SeatAfter true (is_in sent.pushed k) there.0 (message n) here.0 s' =
       subst (λ (b : Bool). SeatAfter b (is_in sent.pushed k) there.0 (message n) here.0 s') is
       (has.each k there.0 here.0 s' there.1 here.1 at') in
-      one-took (is_in sent.pushed k) there.0 (message n) here.0 s' (All-at (IsSubOf f.size) subs k there.0 stands.subs_are there.1) after
+      one-took (is_in sent.pushed k) there.0 (message n) here.0 s'
+      (All-at (IsSubOf f.size) subs k there.0 stands.subs_are there.1) after
       ∙ ap (λ l. l ++ message n ∷ []) (All-at (λ s. seat_sent s ≡ messages n) old k here.0 before here.1))
 
   -- whatever was pushed, the seats stay its publisher's
@@ -94,7 +97,8 @@ module _ (f : Shared) (stands : IsOpen f) where
       let within = slice_get_within new k s' at' in
       let there = at-some subs k (omega arith) in
       let here = at-some old k (omega arith) in
-      same-publisher (is_in to k) (is_in sent.pushed k) there.0 (message n) here.0 s' (has.each k there.0 here.0 s' there.1 here.1 at')
+      same-publisher (is_in to k) (is_in sent.pushed k) there.0 (message n) here.0 s'
+      (has.each k there.0 here.0 s' there.1 here.1 at')
       ∙ All-at (λ s. seat_publisher s ≡ p) old k here.0 before here.1)
 
   module _ (p n : ℕ) (old new : Publisher) (sent : Sent) (feeding : IsFeeding f p n old) (below : n < f.size.messages)
@@ -125,7 +129,8 @@ module _ (f : Shared) (stands : IsOpen f) where
     opens-after =
         let one = pass_who before ∷ [] in
         let P : FanEntry → Type 0 = λ e. is_by one e ≡ true → e.op ≡ Open in
-        let earlier : AreOpens one (pass_seen before) = subst (λ players. AreOpens players (pass_seen before)) alone-before (feeding.opens before has.opened.was) in
+        let earlier : AreOpens one (pass_seen before) = subst (λ players. AreOpens players (pass_seen before)) alone-before
+        (feeding.opens before has.opened.was) in
         let so_far = opens-go-on one (pass_seen before) found has.opened.entered.since earlier in
         subst (λ players. AreOpens players (pass_seen after)) (sym alone-after)
         (subst (All P) (sym has.opened.entered.entered) (All-push P found made so_far (λ mine. refl)))
@@ -158,10 +163,12 @@ module _ (f : Shared) (stands : IsOpen f) where
         }
 
     -- each seat has as many pushes left
-    pub rooms-after : ((k : ℕ) → All (λ s. k < seat_room s) (publisher_seats old) → All (λ s. k ≤ seat_room s) (publisher_seats new)) →
+    pub rooms-after : ((k : ℕ) → All (λ s. k < seat_room s) (publisher_seats old) →
+        All (λ s. k ≤ seat_room s) (publisher_seats new)) →
         All (λ s. f.size.messages ≤ seat_room s + suc n) (publisher_seats new)
     rooms-after falls =
         let k = f.size.messages - suc n in
-        All-weaker (λ s. k ≤ seat_room s) (λ s. f.size.messages ≤ seat_room s + suc n) (λ s some. omega arith) (publisher_seats new)
+        All-weaker (λ s. k ≤ seat_room s) (λ s. f.size.messages ≤ seat_room s + suc n) (λ s some. omega arith)
+        (publisher_seats new)
         (falls k (All-weaker (λ s. f.size.messages ≤ seat_room s + n) (λ s. k < seat_room s) (λ s some. omega arith)
         (publisher_seats old) feeding.rooms))

@@ -9,7 +9,8 @@ abbrev Seats : Type 0
 Seats = Vec PubSeat Global
 
 module _ (old now : List Seats) (lasts : List PubSeat) (i : ℕ) (line after : Seats) (last : PubSeat)
-    (inside : i < length now) (many : length lasts ≡ i) (stood : slice_get now i ≡ Some line) (is : line.items ≡ after.items ++ last ∷ [])
+    (inside : i < length now) (many : length lasts ≡ i) (stood : slice_get now i ≡ Some line)
+    (is : line.items ≡ after.items ++ last ∷ [])
     (left : (k : ℕ) → i ≤ k → slice_get now k ≡ slice_get old k) where
   -- those behind it are as they were
   pub left-still : (k : ℕ) → i + 1 ≤ k → slice_get (set now i after) k ≡ slice_get old k
@@ -26,7 +27,8 @@ module _ (old now : List Seats) (lasts : List PubSeat) (i : ℕ) (line after : S
       (λ end.
       let place : k ≡ i = end.0 ∙ many in
       let was : line ≡ o = same_Some line o (sym stood ∙ left i (omega arith) ∙ ap (slice_get old) (sym place) ∙ at) in
-      let becomes : after ≡ n = same_Some after n (sym (at-set now i after inside) ∙ ap (slice_get (set now i after)) (sym place) ∙ there) in
+      let becomes : after ≡ n = same_Some after n (sym (at-set now i after inside)
+      ∙ ap (slice_get (set now i after)) (sym place) ∙ there) in
       record {
         items = ap (λ (s : Seats). s.items) (sym was) ∙ is
             ∙ ap (λ (s : Seats). s.items ++ last ∷ []) becomes ∙ ap (λ (y : PubSeat). n.items ++ y ∷ []) end.1;

@@ -1,5 +1,5 @@
-//! Publishers that feed message subscribers: each sends its messages to all of them on a thread of its own, and then all that each
-//! subscriber took is printed.
+//! Publishers that feed message subscribers: each sends its messages to all of them on a thread of its own, and then all that
+//! each subscriber took is printed.
 #![tactic(auto)]
 
 mod fan;

@@ -19,7 +19,8 @@ fn message_of(number: u32) -> Msg
     message
 }
 
-/// The publisher of this number sends all its messages, and asks the gate before each. Where it finds no memory it sends no more.
+/// The publisher of this number sends all its messages, and asks the gate before each. Where it finds no memory it sends no
+/// more.
 fn send_all<R: Wait, G: Gate>(rt: &R, shared: &Shared, gate: &G, number: usize, feeder: &mut Feeder)
     requires open { IsOpen shared.now }
     requires ready { IsReady shared.now number feeder.old }

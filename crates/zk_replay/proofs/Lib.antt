@@ -7,4 +7,6 @@ pub mod Rounds
 pub mod Runs
 pub mod StillRounds
 pub mod Told
+pub mod Unfreed
 pub mod Unserved
+pub mod WaitsMoved

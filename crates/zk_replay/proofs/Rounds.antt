@@ -19,7 +19,8 @@ use Rattle.zk_world.specs.Ready.{IsReady, all_left}
 use Rattle.zk_world.specs.World.{World, world, stepped, is_spent}
 use Rattle.zk_world.proofs.Readiness.{ready-stepped, left-stepped}
 use Rattle.zk_replay.specs.RoundRobin.{turn, turn_of, turns, round, rounds}
-use Rattle.zk_replay.specs.Turning.{shown_with, at_after, IsTurn, Turned, Rounded, WithinRound}
+use Rattle.zk_replay.specs.Turning.{has_moved, has_spent, shown_with, at_after, IsTurn, Turned, Rounded, WithinRound}
+use Rattle.zk_replay.proofs.InVain.{none_or}
 use Rattle.zk_replay.proofs.StillRounds.{first_possible-is}
 
 module _ (m : Machines) (s : Content) where
@@ -37,7 +38,7 @@ module _ (m : Machines) (s : Content) where
   pub turned-from : (shown shown' : Shown) (players players' : List PlayerPlace) (p : ℕ) (at at' : PlayerPlace) (told : Turn) (made : Option (Step × StepReply)) →
       m ≡ machines_of s → IsReady s (world shown players) → is_spent s (world shown players) ≡ false → slice_get players p ≡ Some at → chosen m s shown at ≡ made →
       shown' ≡ shown_with shown at.who (length at.spots) made → at' ≡ at_after s at made → players' ≡ set players p at' →
-      told.moved ≡ is_some made → told.spent ≡ is_spent_at s at' → Turned m s (world shown players) (world shown' players') p told
+      has_moved told ≡ is_some made → has_spent told ≡ is_spent_at s at' → Turned m s (world shown players) (world shown' players') p told
   turned-from shown shown' players players' p at at' told made of_scenario ready unspent is choice history place written moved spent =
       let all : world shown' players' ≡ stepped s (world shown players) p at made =
       ap (λ (h : Shown). world h players') history
@@ -79,14 +80,14 @@ module _ (m : Machines) (s : Content) where
   rest-next old now new n p next rest = ap (λ (w : World). turns m s w n (p + 1)) next ∙ rest
 
   -- the round goes on behind a turn after which no player is spent
-  pub within-next : (old now new : World) (moved : Bool) (n p : ℕ) (told : Turn) → WithinRound m s old now moved (suc n) p → Turned m s now new p told → told.spent ≡ false →
-      WithinRound m s old new (moved || told.moved) n (p + 1)
+  pub within-next : (old now new : World) (moved : Bool) (n p : ℕ) (told : Turn) → WithinRound m s old now moved (suc n) p → Turned m s now new p told → has_spent told ≡ false →
+      WithinRound m s old new (moved || has_moved told) n (p + 1)
   within-next old now new moved n p told within turned unspent = record {
     rest = rest-next old now new n p turned.next within.rest;
     ready = turned.ready;
     unspent = sym turned.spent ∙ unspent;
-    less = λ moves. by_less moved told.moved within.less within.still turned.moved turned.still moves;
-    still = λ rests. by_still moved told.moved within.still turned.still rests;
+    less = λ moves. by_less moved (has_moved told) within.less within.still turned.moved turned.still moves;
+    still = λ rests. by_still moved (has_moved told) within.still turned.still rests;
   }
     where
       by_still : (a b : Bool) → (a ≡ false → now ≡ old) → (b ≡ false → new ≡ now) → (a || b) ≡ false → new ≡ old
@@ -100,7 +101,7 @@ module _ (m : Machines) (s : Content) where
       by_less false b less still less' still' moves = subst (λ (w : World). all_left s new.players < all_left s w.players) (still refl) (less' moves)
 
   -- a turn after which a player is spent ends the round
-  pub within-spent : (old now new : World) (moved : Bool) (n p : ℕ) (told : Turn) → WithinRound m s old now moved (suc n) p → Turned m s now new p told → told.spent ≡ true →
+  pub within-spent : (old now new : World) (moved : Bool) (n p : ℕ) (told : Turn) → WithinRound m s old now moved (suc n) p → Turned m s now new p told → has_spent told ≡ true →
       Rounded m s old new Spent
   within-spent old now new moved n p told within turned spent =
       let over : is_spent s new ≡ true = sym turned.spent ∙ spent in
@@ -121,7 +122,7 @@ module _ (m : Machines) (s : Content) where
 -- the same of a turn in the code
 pub turned-with : (m : Machines) (s : Content) (old new : Shown) (players players' : List PlayerPlace) (p : ℕ) (at at' : PlayerPlace) (told : Turn) →
     m ≡ machines_of s → IsReady s (world old players) → is_spent s (world old players) ≡ false → slice_get players p ≡ Some at → players' ≡ set players p at' →
-    IsTurn m s at at' old new told.moved → told.spent ≡ is_spent_at s at' → Turned (machines_of s) s (world old players) (world new players') p told
+    IsTurn m s at at' old new (has_moved told) → has_spent told ≡ is_spent_at s at' → Turned (machines_of s) s (world old players) (world new players') p told
 turned-with m s old new players players' p at at' told of_scenario ready unspent is written turn spent =
     subst (λ (x : Machines). Turned x s (world old players) (world new players') p told) of_scenario
     (turned-from m s old new players players' p at at' told (chosen m s old at) of_scenario ready unspent is refl
@@ -136,3 +137,9 @@ rounded-at m s old new course course' told rounded = subst (λ (c : RoundEnd). R
 pub within-left : (m : Machines) (s : Content) (old now : World) (moved : Bool) (k l p : ℕ) → k ≡ l →
     WithinRound m s old now moved k p → WithinRound m s old now moved l p
 within-left m s old now moved k l p same within = subst (λ (j : ℕ). WithinRound m s old now moved j p) same within
+
+-- a turn without a step leaves a player that isn't spent so
+pub spent-still : (m : Machines) (s : Content) (at at' : PlayerPlace) (old new : Shown) (moved : Bool) → IsTurn m s at at' old new moved →
+    moved ≡ false → is_spent_at s at ≡ false → is_spent_at s at' ≡ false
+spent-still m s at at' old new moved turn rests unspent =
+    ap (is_spent_at s) (turn.place ∙ ap (at_after s at) (none_or (chosen m s old at) (sym rests ∙ turn.moves))) ∙ unspent

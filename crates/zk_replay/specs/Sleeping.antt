@@ -1,17 +1,16 @@
 -- Inner: no contract of a top call is made of this file.
-use Rattle.std.specs.Prelude.{◌≡◌, ◌≢◌, ℕ, ◌+◌, ◌-◌, ◌<◌, ◌≤◌, Bool, true, false, Option, Some, None, List, length, slice_get, option_and_then, All}
+use Rattle.std.specs.Prelude.{◌≡◌, ◌≢◌, ℕ, ◌+◌, ◌-◌, Bool, true, false, if◌then◌else◌, Option, Some, None, List, length, slice_get, option_and_then, All}
 use Rattle.std.specs.Option.{option_map_or}
 use Rattle.zk_player_set.specs.declared.player_set.PlayerSet.{PlayerSet}
 use Rattle.zk_player_set.specs.Players.{has}
 use Rattle.zk_scenario.specs.Content.{Content}
 use Rattle.zk_services.specs.declared.counted.ServiceId.{ServiceId}
 use Rattle.zk_services.specs.declared.counted.ServiceId.TheVariants as ids
-use Rattle.zk_services.specs.Counted.{service_of}
+use Rattle.zk_services.specs.Counted.{service_of, may_serve}
 use Rattle.zk_worker.specs.declared.steps.Spot.{Spot}
 use Rattle.zk_worker.specs.declared.steps.Spot.TheVariants as spots
 use Rattle.zk_worker.specs.declared.steps.Step.{Step}
 use Rattle.zk_worker.specs.Attempt.{reply_in}
-use Rattle.zk_worker.specs.Choosing.{chosen}
 use Rattle.zk_worker.specs.Machines.{Machines}
 use Rattle.zk_worker.specs.Places.{PlayerPlace}
 use Rattle.zk_worker.specs.Protocol.{attempts}
@@ -20,7 +19,6 @@ use Rattle.zk_world.specs.World.{World}
 use Rattle.zk_replay.specs.declared.last_turn.Asked.{Asked}
 use Rattle.zk_replay.specs.declared.last_turn.LastTurn.{LastTurn}
 use Rattle.zk_replay.specs.declared.sleepers.Sleepers.{Sleepers}
-use Rattle.zk_replay.specs.LastTurns.{AreFutile}
 
 -- the number of the list of a service: an object's stands behind those of the services of which there is one
 abbrev pub list_of : ServiceId → ℕ
@@ -49,6 +47,14 @@ entered_at (spots.LookSignal object seen) = None
 -- the same of the last of these spots
 abbrev pub last_entered : List Spot → Option ServiceId
 last_entered log = option_and_then entered_at (slice_get log (length log - 1))
+
+-- a service, where its last entry may have made a step of another player possible
+abbrev pub if_serving : Shown → ServiceId → Option ServiceId
+if_serving shown service = if may_serve shown service then Some service else None
+
+-- the same of the service of the last of these spots
+abbrev pub serving : Shown → List Spot → Option ServiceId
+serving shown log = option_and_then (if_serving shown) (last_entered log)
 
 -- a player is said to sleep: where nobody is, there is no set
 abbrev pub is_asleep : Sleepers → ℕ → Bool
@@ -89,21 +95,7 @@ pub record FellAsleep (kept : LastTurn) (number : ℕ) (old new : Sleepers) : Ty
   pub others : (p : ℕ) → p ≢ number → is_asleep new p ≡ true → is_asleep old p ≡ true
   pub stand : StandStill old.lists.items new.lists.items
 
--- the last turn of a player was in vain, and what it asked for then is in vain still
-pub record IsInVain (m : Machines) (shown : Shown) (players : List PlayerPlace) (waiting : List LastTurn) (p : ℕ) : Type 0 where
-  pub at : PlayerPlace
-  pub kept : LastTurn
-  pub there : slice_get players p ≡ Some at
-  pub noted : slice_get waiting p ≡ Some kept
-  pub waits : kept.waits ≡ true
-  pub futile : AreFutile m shown at.who kept.asked.items
-
--- none of so many players from one on has a possible attempt
-abbrev pub ArePassed : Machines → Content → Shown → List PlayerPlace → ℕ → ℕ → Type 0
-ArePassed m s shown players p count =
-    (q : ℕ) → p ≤ q → q < p + count → (at : PlayerPlace) → slice_get players q ≡ Some at → chosen m s shown at ≡ None
-
--- a player that sleeps slept before, and stands in each list still: not in that of a further entry
+-- a player that sleeps slept before, and stands in each list still: not in that of a service that may serve it
 pub record SleepsOn (entered : Option ServiceId) (old new : Sleepers) (p : ℕ) : Type 0 where
   pub slept : is_asleep old p ≡ true
   pub stands : (list : ℕ) → listed_at old.lists.items list p ≡ true → listed_at new.lists.items list p ≡ true

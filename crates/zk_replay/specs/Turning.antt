@@ -11,6 +11,7 @@ use Rattle.zk_worker.specs.Protocol.{after}
 use Rattle.zk_worker.specs.Machines.{Machines, machines_of}
 use Rattle.zk_worker.specs.Shown.{Shown, shown_after}
 use Rattle.zk_replay.specs.declared.turns.Turn.{Turn}
+use Rattle.zk_replay.specs.declared.turns.Turn.TheVariants as turns
 use Rattle.zk_replay.specs.declared.turns.RoundEnd.{RoundEnd}
 use Rattle.zk_replay.specs.declared.turns.RoundEnd.TheVariants.{Still, Goes, Spent}
 use Rattle.zk_worker.specs.Choosing.{chosen}
@@ -35,6 +36,18 @@ pub record IsTurn (m : Machines) (s : Content) (at at' : PlayerPlace) (old new :
   pub shows : new ≡ shown_with old at.who (length at.spots) (chosen m s old at)
   pub moves : moved ≡ is_some (chosen m s old at)
 
+-- whether a turn made a step
+abbrev pub has_moved : Turn → Bool
+has_moved turns.Rested = false
+has_moved turns.Moved = true
+has_moved turns.Spent = true
+
+-- whether it was the last one that the player may make
+abbrev pub has_spent : Turn → Bool
+has_spent turns.Rested = false
+has_spent turns.Moved = false
+has_spent turns.Spent = true
+
 -- whether a step was made
 abbrev pub made_step : Stepped → Bool
 made_step stepped.Did = true
@@ -51,9 +64,9 @@ pub record Turned (m : Machines) (s : Content) (old new : World) (player : ℕ) 
     : Type 0 where
   pub next : new ≡ turn m s old player
   pub ready : IsReady s new
-  pub spent : told.spent ≡ is_spent s new
-  pub moved : told.moved ≡ true → all_left s new.players < all_left s old.players
-  pub still : told.moved ≡ false → new ≡ old
+  pub spent : has_spent told ≡ is_spent s new
+  pub moved : has_moved told ≡ true → all_left s new.players < all_left s old.players
+  pub still : has_moved told ≡ false → new ≡ old
 
 -- how the run goes on after a round
 abbrev pub GoesOn : Content → World → World → RoundEnd → Type 0

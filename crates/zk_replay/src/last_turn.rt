@@ -111,8 +111,29 @@ fn count_again<V: Counted>(services: &V, asked: &mut [Asked])
     }
 }
 
-/// Keeps of a player's turn whether it was in vain, and what it asked for then. Where the one before was in vain too, it asked
-/// for the same.
+/// Keeps of a player's turn in vain what it asked for. Where the one before was in vain too, it asked for the same.
+// Out of line: most turns aren't in vain.
+#[inline(never)]
+fn keep_vain<V: Counted>(
+    services: &V,
+    scenario: &Scenario,
+    player: &Player,
+    kept: &mut LastTurn,
+) -> Result<(), NoMemory>
+    requires { kept.old.waits ≡ true → HaveAsked kept.old.asked.items (attempts scenario.now player.now) }
+    ensures { IfOk result (λ _. kept.new.asked.items
+        ≡ map (asked_at (V.shown services.now)) (attempts scenario.now player.now)) }
+{
+    if kept.waits {
+        count_again(services, &mut kept.asked);
+        return Ok(());
+    }
+    kept.waits = true;
+    ask(services, scenario, player, &mut kept.asked)
+}
+
+/// Keeps of a player's turn whether it was in vain, and what it asked for then.
+#[inline(always)]
 pub fn keep<V: Counted>(
     services: &V,
     scenario: &Scenario,
@@ -120,7 +141,8 @@ pub fn keep<V: Counted>(
     moved: bool,
     kept: &mut LastTurn,
 ) -> Result<(), NoMemory>
-    requires again { moved ≡ false → kept.old.waits ≡ true → HaveAsked kept.old.asked.items (attempts scenario.now player.now) }
+    requires again { moved ≡ false → kept.old.waits ≡ true →
+        HaveAsked kept.old.asked.items (attempts scenario.now player.now) }
     ensures moved { IfOk result (λ _. moved ≡ true → kept.new.waits ≡ false) }
     ensures asked { IfOk result (λ _. moved ≡ false → kept.new.asked.items
         ≡ map (asked_at (V.shown services.now)) (attempts scenario.now player.now)) }
@@ -129,10 +151,5 @@ pub fn keep<V: Counted>(
         kept.waits = false;
         return Ok(());
     }
-    if kept.waits {
-        count_again(services, &mut kept.asked);
-        return Ok(());
-    }
-    kept.waits = true;
-    ask(services, scenario, player, &mut kept.asked)
+    keep_vain(services, scenario, player, kept)
 }

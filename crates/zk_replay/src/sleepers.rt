@@ -1,46 +1,17 @@
-ghost use Rattle.std.specs.Prelude.{◌≡◌, ℕ, ◌+◌, ◌<◌, ◌≤◌, true, false, vec_len, IfOk};
-ghost use Rattle.zk_base.specs.Limits.{most_players};
+ghost use Rattle.std.specs.Prelude.{◌≡◌, ℕ, ◌+◌, ◌<◌, ◌≤◌, true, false, IfOk};
 ghost use Rattle.std.specs.Option.{option_map_or};
+ghost use Rattle.zk_base.specs.Limits.{most_players};
 ghost use Rattle.zk_player_set.specs.declared.player_set.PlayerSet.{PlayerSet};
 ghost use Rattle.zk_player_set.specs.Players.{has};
-ghost use Rattle.zk_worker.specs.Machines.{machines_of};
-ghost use Rattle.zk_world.specs.World.{world};
-ghost use Rattle.zk_replay.specs.LastTurns.{AreKept};
-ghost use Rattle.zk_replay.specs.Sleeping.{is_asleep, list_of, listed_at, entered_at, last_entered, AreAsleep, AreListed, ArePassed, StandStill, FellAsleep, IsInVain, SleepOn};
+ghost use Rattle.zk_replay.specs.Sleeping.{is_asleep, list_of, listed_at, entered_at, last_entered, serving, AreListed, StandStill, FellAsleep, SleepOn};
 
-use crate::last_turn::{Asked, LastTurn, is_in_vain};
+use crate::last_turn::{Asked, LastTurn};
 use std::alloc::Global;
 use zk_base::{MOST_PLAYERS, NoMemory};
 use zk_player_set::PlayerSet;
 use zk_scenario::Scenario;
 use zk_services::{Counted, ServiceId, service_of};
 use zk_worker::{Player, Spot};
-
-/// How long a player stays awake that is woken in vain again and again, as where others go on at a service all the time: there
-/// it costs less to ask it each turn than to let it fall asleep each time.
-#[derive(Clone, Copy)]
-pub struct Patience {
-    /// How many further turns in vain it stays awake.
-    pub awake: u32,
-    /// How many it will after it has fallen asleep the next time.
-    pub next: u32,
-}
-
-/// The most turns in vain for which a player stays awake.
-const MOST_AWAKE: u32 = 63;
-
-/// A player that was not woken in vain.
-const AT_ONCE: Patience = Patience { awake: 0, next: 0 };
-
-impl Patience {
-    /// After the player has fallen asleep: it will stay awake for four times as long as the last time, up to `MOST_AWAKE`.
-    fn longer(self) -> Patience {
-        Patience {
-            awake: self.next,
-            next: self.next.min(MOST_AWAKE / 4) * 4 + 3,
-        }
-    }
-}
 
 /// Who sleeps, and who is woken by an entry of which service.
 #[derive(Drop)]
@@ -50,8 +21,6 @@ pub struct Sleepers {
     pub asleep: Option<PlayerSet>,
     /// For each service those who sleep and asked it, by the number of its list. Others may be among them.
     pub lists: Vec<PlayerSet>,
-    /// How long each player stays awake. Nothing rests on it: it is there for time alone.
-    pub patience: Vec<Patience>,
 }
 
 /// The number of the list of a service: an object's stands behind those of the services of which there is one.
@@ -108,13 +77,13 @@ pub fn no_sleepers(alloc: Global, scenario: &Scenario) -> Result<Sleepers, NoMem
     Ok(Sleepers {
         asleep: None,
         lists: vec![in alloc; PlayerSet::none(); scenario.decls().len() + 3]?,
-        patience: vec![in alloc; AT_ONCE; scenario.players() as usize]?,
     })
 }
 
 /// How many players sleep that follow each other, from this one on: none where this one is awake.
 #[inline(always)]
 pub fn asleep_from(sleepers: &Sleepers, number: usize) -> usize
+    requires { number < most_players }
     ensures all { (player : ℕ) → number ≤ player → player < number + result → is_asleep sleepers.now player ≡ true }
     ensures none { result ≡ 0 → is_asleep sleepers.now number ≡ false }
     ensures few { result ≤ most_players }
@@ -122,70 +91,10 @@ pub fn asleep_from(sleepers: &Sleepers, number: usize) -> usize
     let Some(asleep) = &sleepers.asleep else {
         return 0;
     };
-    if number >= MOST_PLAYERS as usize || !asleep.contains(number as u32) {
+    if number >= MOST_PLAYERS as usize {
         return 0;
     }
     asleep.consecutive_from(number as u32) as usize
-}
-
-/// Whether a player that is awake would ask in vain, and stays awake.
-#[inline(always)]
-fn rests<V: Counted>(
-    services: &V,
-    players: &Vec<Player>,
-    waiting: &Vec<LastTurn>,
-    patience: &mut Vec<Patience>,
-    number: usize,
-) -> bool
-    requires player { number < vec_len players.now }
-    requires places { vec_len waiting.now ≡ vec_len players.now }
-    ensures { result ≡ true →
-        IsInVain (V.machines services.now) (V.shown services.now) players.now.items waiting.now.items number }
-{
-    let kept = &waiting[number];
-    if !kept.waits || number >= patience.len() {
-        return false;
-    }
-    let own = &mut patience[number];
-    if own.awake == 0 || !is_in_vain(services, players[number].who(), kept) {
-        return false;
-    }
-    own.awake -= 1;
-    true
-}
-
-/// How many players from this one on aren't asked in this round: those who sleep, or one that is awake and would ask in vain.
-#[inline(always)]
-pub fn passed_over<V: Counted>(
-    services: &V,
-    scenario: &Scenario,
-    players: &Vec<Player>,
-    waiting: &Vec<LastTurn>,
-    sleepers: &mut Sleepers,
-    number: usize,
-) -> usize
-    requires player { number < vec_len players.now }
-    requires places { vec_len waiting.now ≡ vec_len players.now }
-    requires machines { V.machines services.now ≡ machines_of scenario.now }
-    requires kept { AreKept (machines_of scenario.now) scenario.now
-        (world (V.shown services.now) players.now.items) waiting.now.items }
-    requires asleep { AreAsleep (machines_of scenario.now) scenario.now
-        (world (V.shown services.now) players.now.items) sleepers.old }
-    ensures asleep { AreAsleep (machines_of scenario.now) scenario.now
-        (world (V.shown services.now) players.now.items) sleepers.new }
-    ensures passed { ArePassed (machines_of scenario.now) scenario.now (V.shown services.now) players.now.items number result }
-    ensures awake { result ≡ 0 → is_asleep sleepers.new number ≡ false }
-    ensures few { result ≤ most_players }
-{
-    let _scenario = scenario;
-    let asleep = asleep_from(sleepers, number);
-    if asleep > 0 {
-        return asleep;
-    }
-    if rests(services, players, waiting, &mut sleepers.patience, number) {
-        return 1;
-    }
-    0
 }
 
 /// Puts a player into a list, if there is such a list.
@@ -215,13 +124,6 @@ fn join_all(lists: &mut Vec<PlayerSet>, asked: &[Asked], player: u32) -> bool
     true
 }
 
-/// Has a player that falls asleep stay awake for longer the next time.
-fn stay_longer(patience: &mut Vec<Patience>, number: usize) {
-    if number < patience.len() {
-        patience[number] = patience[number].longer();
-    }
-}
-
 /// Whether nobody is in the set. Where it answers so of some, they are awake, which costs time alone.
 fn is_nobody(players: &PlayerSet) -> bool {
     let mut number = 0;
@@ -237,7 +139,8 @@ fn is_nobody(players: &PlayerSet) -> bool {
 
 /// The set, if somebody is in it.
 fn some_of(players: PlayerSet) -> Option<PlayerSet>
-    ensures { (player : ℕ) → option_map_or (λ (some : PlayerSet). has some player) result false ≡ true → has players player ≡ true }
+    ensures { (player : ℕ) →
+        option_map_or (λ (some : PlayerSet). has some player) result false ≡ true → has players player ≡ true }
 {
     if is_nobody(&players) {
         None
@@ -246,14 +149,9 @@ fn some_of(players: PlayerSet) -> Option<PlayerSet>
     }
 }
 
-/// Has a player that made a step fall asleep at once, where its next turn is in vain.
-fn sleep_at_once(patience: &mut Vec<Patience>, number: usize) {
-    if number < patience.len() {
-        patience[number] = AT_ONCE;
-    }
-}
-
 /// Lets a player sleep whose last turn was in vain.
+// Out of line: most turns aren't in vain.
+#[inline(never)]
 pub fn fall_asleep(kept: &LastTurn, number: usize, sleepers: &mut Sleepers)
     requires { is_asleep sleepers.old number ≡ false }
     ensures { FellAsleep kept.now number sleepers.old sleepers.new }
@@ -261,7 +159,6 @@ pub fn fall_asleep(kept: &LastTurn, number: usize, sleepers: &mut Sleepers)
     if !kept.waits || number >= MOST_PLAYERS as usize {
         return;
     }
-    stay_longer(&mut sleepers.patience, number);
     let player = number as u32;
     if join_all(&mut sleepers.lists, &kept.asked, player) {
         let mut asleep = match &sleepers.asleep {
@@ -273,10 +170,23 @@ pub fn fall_asleep(kept: &LastTurn, number: usize, sleepers: &mut Sleepers)
     }
 }
 
-/// Wakes those whose steps may have come to be possible by the last step of the player of this number.
+/// Wakes those whose steps may have come to be possible by the last step of a player: those who asked its service, where the
+/// entry may serve somebody.
 #[inline(always)]
-pub fn wake(player: &Player, number: usize, sleepers: &mut Sleepers)
-    ensures { SleepOn (last_entered player.now.spots) sleepers.old sleepers.new }
+pub fn wake<V: Counted>(services: &V, player: &Player, sleepers: &mut Sleepers)
+    ensures { SleepOn (serving (V.shown services.now) player.now.spots) sleepers.old sleepers.new }
+{
+    let Some(_) = &sleepers.asleep else {
+        return;
+    };
+    wake_some(services, player, sleepers);
+}
+
+/// The same where somebody sleeps.
+// Out of line, so that a run in which nobody does has short turns.
+#[inline(never)]
+fn wake_some<V: Counted>(services: &V, player: &Player, sleepers: &mut Sleepers)
+    ensures { SleepOn (serving (V.shown services.now) player.now.spots) sleepers.old sleepers.new }
 {
     let Some(asleep) = &sleepers.asleep else {
         return;
@@ -285,11 +195,10 @@ pub fn wake(player: &Player, number: usize, sleepers: &mut Sleepers)
         return;
     };
     let list = list_of(service);
-    if list >= sleepers.lists.len() {
+    if list >= sleepers.lists.len() || !services.may_serve(service) {
         return;
     }
     let left = asleep.without(&sleepers.lists[list]);
     sleepers.asleep = some_of(left);
     sleepers.lists[list] = PlayerSet::none();
-    sleep_at_once(&mut sleepers.patience, number);
 }

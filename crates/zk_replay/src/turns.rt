@@ -1,4 +1,5 @@
 ghost use Rattle.std.specs.Prelude.{◌≡◌, ℕ, ◌+◌, ◌-◌, ◌^◌, ◌<◌, ◌≤◌, true, false, Some, None, length, is_some, vec_len, IfOk, OnErr};
+ghost use Rattle.zk_scenario.specs.Steps.{steps_of};
 ghost use Rattle.zk_scenario.specs.Valid.{IsValid};
 ghost use Rattle.zk_worker.specs.Follows.{is_spent_at};
 ghost use Rattle.zk_worker.specs.Ranges.{IsFit};
@@ -9,12 +10,12 @@ ghost use Rattle.zk_worker.specs.Choosing.{chosen};
 ghost use Rattle.zk_world.specs.Ready.{IsReady};
 ghost use Rattle.zk_world.specs.World.{world, is_spent};
 ghost use Rattle.zk_replay.specs.RoundRobin.{turn, round, rounds};
-ghost use Rattle.zk_replay.specs.Turning.{made_step, IsAlone, IsTurn, Turned, Rounded};
+ghost use Rattle.zk_replay.specs.Turning.{has_moved, has_spent, made_step, IsAlone, IsTurn, Turned, Rounded};
 ghost use Rattle.zk_replay.specs.LastTurns.{IsKept, AreKept};
 ghost use Rattle.zk_replay.specs.Sleeping.{is_asleep, AreAsleep};
 
 use crate::last_turn::{LastTurn, is_in_vain, keep, no_turns};
-use crate::sleepers::{Sleepers, fall_asleep, no_sleepers, passed_over, wake};
+use crate::sleepers::{Sleepers, asleep_from, fall_asleep, no_sleepers, wake};
 use std::alloc::Global;
 use zk_base::NoMemory;
 use zk_scenario::Scenario;
@@ -23,11 +24,13 @@ use zk_worker::{Player, Services, Stepped};
 
 /// What a turn did.
 #[derive(Clone, Copy)]
-pub struct Turn {
-    /// The player made a step.
-    pub moved: bool,
-    /// It was the last one that the player may make.
-    pub spent: bool,
+pub enum Turn {
+    /// The player made no step.
+    Rested,
+    /// It made a step, and may make more.
+    Moved,
+    /// It made the last step that it may make.
+    Spent,
 }
 
 /// How the run goes on after a round.
@@ -50,13 +53,50 @@ fn made_step(stepped: Stepped) -> bool
     }
 }
 
-/// A turn of a player that has steps left.
+/// Whether a turn made a step.
+#[inline(always)]
+fn has_moved(turn: Turn) -> bool
+    ensures { result ≡ has_moved turn }
+{
+    match turn {
+        Turn::Rested => false,
+        Turn::Moved | Turn::Spent => true,
+    }
+}
+
+/// Whether it was the last one that the player may make.
+#[inline(always)]
+fn has_spent(turn: Turn) -> bool
+    ensures { result ≡ has_spent turn }
+{
+    match turn {
+        Turn::Rested | Turn::Moved => false,
+        Turn::Spent => true,
+    }
+}
+
+/// The turn in which a step was made or not, behind which the player is spent or not.
+#[inline(always)]
+fn turn_of(moved: bool, spent: bool) -> Turn
+    requires { moved ≡ false → spent ≡ false }
+    ensures moved { has_moved result ≡ moved }
+    ensures spent { has_spent result ≡ spent }
+{
+    if !moved {
+        return Turn::Rested;
+    }
+    if spent { Turn::Spent } else { Turn::Moved }
+}
+
+/// A turn of a player that has steps left, of at most so many.
 fn play<V: Services>(
     services: &mut V,
     scenario: &Scenario,
+    most: u32,
     player: &mut Player,
 ) -> Result<Turn, NoMemory>
     requires valid { IsValid scenario.now }
+    requires most { most ≡ steps_of scenario.now }
     requires alone { IsAlone scenario.now (V.alone services.old) (V.machines services.old) (V.serves services.old) }
     requires fits { IsFit scenario.now player.old }
     requires log { ShowsLog (V.shown services.old) player.old.who.number player.old.spots }
@@ -65,14 +105,14 @@ fn play<V: Services>(
     requires unspent { is_spent_at scenario.now player.old ≡ false }
     ensures turn { IfOk result (λ turn.
         IsTurn (V.machines services.old) scenario.now player.old player.new
-        (V.shown services.old) (V.shown services.new) turn.moved) }
-    ensures spent { IfOk result (λ turn. turn.spent ≡ is_spent_at scenario.now player.new) }
+        (V.shown services.old) (V.shown services.new) (has_moved turn)) }
+    ensures spent { IfOk result (λ turn. has_spent turn ≡ is_spent_at scenario.now player.new) }
     ensures alone { IsAlone scenario.now (V.alone services.new) (V.machines services.new) (V.serves services.new) }
 {
     let stepped = player.step(scenario, services)?;
     let moved = made_step(stepped);
-    let spent = player.is_spent(scenario);
-    Ok(Turn { moved, spent })
+    let spent = most <= player.steps();
+    Ok(turn_of(moved, spent))
 }
 
 /// A turn of a player that has steps left. Where its last one was in vain, and what it asked for then is in vain still, it
@@ -80,10 +120,12 @@ fn play<V: Services>(
 fn play_or_pass<V: Counted>(
     services: &mut V,
     scenario: &Scenario,
+    most: u32,
     player: &mut Player,
     kept: &mut LastTurn,
 ) -> Result<Turn, NoMemory>
     requires valid { IsValid scenario.now }
+    requires most { most ≡ steps_of scenario.now }
     requires alone { IsAlone scenario.now (V.alone services.old) (V.machines services.old) (V.serves services.old) }
     requires fits { IsFit scenario.now player.old }
     requires log { ShowsLog (V.shown services.old) player.old.who.number player.old.spots }
@@ -93,20 +135,17 @@ fn play_or_pass<V: Counted>(
     requires kept { IsKept (V.machines services.old) scenario.now (V.shown services.old) player.old kept.old }
     ensures turn { IfOk result (λ turn.
         IsTurn (V.machines services.old) scenario.now player.old player.new
-        (V.shown services.old) (V.shown services.new) turn.moved) }
-    ensures spent { IfOk result (λ turn. turn.spent ≡ is_spent_at scenario.now player.new) }
+        (V.shown services.old) (V.shown services.new) (has_moved turn)) }
+    ensures spent { IfOk result (λ turn. has_spent turn ≡ is_spent_at scenario.now player.new) }
     ensures kept { IfOk result (λ turn.
         IsKept (V.machines services.old) scenario.now (V.shown services.new) player.new kept.new) }
     ensures alone { IsAlone scenario.now (V.alone services.new) (V.machines services.new) (V.serves services.new) }
 {
     if is_in_vain(services, player.who(), kept) {
-        return Ok(Turn {
-            moved: false,
-            spent: false,
-        });
+        return Ok(Turn::Rested);
     }
-    let turn = play(services, scenario, player)?;
-    keep(services, scenario, player, turn.moved, kept)?;
+    let turn = play(services, scenario, most, player)?;
+    keep(services, scenario, player, has_moved(turn), kept)?;
     Ok(turn)
 }
 
@@ -115,12 +154,14 @@ fn play_or_pass<V: Counted>(
 fn take_turn<V: Counted>(
     services: &mut V,
     scenario: &Scenario,
+    most: u32,
     players: &mut Vec<Player>,
     waiting: &mut Vec<LastTurn>,
     sleepers: &mut Sleepers,
     number: usize,
 ) -> Result<Turn, NoMemory>
     requires valid { IsValid scenario.now }
+    requires most { most ≡ steps_of scenario.now }
     requires alone { IsAlone scenario.now (V.alone services.old) (V.machines services.old) (V.serves services.old) }
     requires ready { IsReady scenario.now (world (V.shown services.old) players.old.items) }
     requires unspent { is_spent scenario.now (world (V.shown services.old) players.old.items) ≡ false }
@@ -145,17 +186,17 @@ fn take_turn<V: Counted>(
 {
     let player = &mut players[number];
     let kept = &mut waiting[number];
-    let turn = play_or_pass(services, scenario, player, kept)?;
-    if turn.moved {
-        wake(player, number, sleepers);
+    let turn = play_or_pass(services, scenario, most, player, kept)?;
+    if has_moved(turn) {
+        wake(services, player, sleepers);
         return Ok(turn);
     }
     fall_asleep(kept, number, sleepers);
     Ok(turn)
 }
 
-/// A turn of each player in order, but not beyond one that is spent by its turn. Who sleeps, or would ask in vain, isn't asked:
-/// most of the time most do.
+/// A turn of each player in order, but not beyond one that is spent by its turn. Who sleeps isn't asked: most of the time most
+/// do.
 fn play_round<V: Counted>(
     services: &mut V,
     scenario: &Scenario,
@@ -183,18 +224,19 @@ fn play_round<V: Counted>(
     ensures places { vec_len waiting.new ≡ vec_len players.new }
     ensures alone { IsAlone scenario.now (V.alone services.new) (V.machines services.new) (V.serves services.new) }
 {
+    let most = scenario.steps();
     let mut moved = false;
     let mut number = 0;
     while number < players.len() {
-        let passed = passed_over(services, scenario, players, waiting, sleepers, number);
-        if passed > 0 {
-            number += passed;
+        let asleep = asleep_from(sleepers, number);
+        if asleep > 0 {
+            number += asleep;
         } else {
-            let turn = take_turn(services, scenario, players, waiting, sleepers, number)?;
-            if turn.spent {
+            let turn = take_turn(services, scenario, most, players, waiting, sleepers, number)?;
+            if has_spent(turn) {
                 return Ok(RoundEnd::Spent);
             }
-            moved |= turn.moved;
+            moved |= has_moved(turn);
             number += 1;
         }
     }

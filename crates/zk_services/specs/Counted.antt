@@ -1,6 +1,10 @@
 -- Inner: no contract of a top call is made of this file.
-use Rattle.std.specs.Prelude.{ℕ, List, length, slice_get}
+use Rattle.std.specs.Prelude.{ℕ, ◌-◌, Bool, true, false, List, length, slice_get}
 use Rattle.std.specs.Option.{option_map_or}
+use Rattle.zk_base.specs.declared.ids.Entry.{Entry}
+use Rattle.zk_model_bus.specs.declared.channel.ChanOp.{ChanOp}
+use Rattle.zk_model_bus.specs.declared.channel.ChanOp.TheVariants as ops
+use Rattle.zk_model_bus.specs.declared.channel.ChanReply.{ChanReply}
 use Rattle.zk_worker.specs.declared.steps.Step.{Step}
 use Rattle.zk_worker.specs.declared.steps.Step.TheVariants as steps
 use Rattle.zk_worker.specs.Shown.{Shown}
@@ -34,3 +38,19 @@ entries_at shown (ids.Msgq object) = count_at shown.msgqs object
 entries_at shown (ids.Signal object) = count_at shown.signals object
 entries_at shown (ids.Chan object) = count_at shown.chans object
 entries_at shown (ids.Obs object) = count_at shown.observers object
+
+-- an operation by which a channel may go to somebody who waits
+abbrev pub frees : ChanOp → Bool
+frees ops.Free = true
+frees ops.Finish = true
+frees op = false
+
+-- the last entry of a channel may be one by which it went to somebody who waits
+abbrev pub freed_last : List (List (Entry ChanOp ChanReply)) → ℕ → Bool
+freed_last histories object =
+    option_map_or (λ h. option_map_or (λ e. frees e.op) (slice_get h (length h - 1)) true) (slice_get histories object) true
+
+-- whether the last entry of a service may have made a step of another player possible
+abbrev pub may_serve : Shown → ServiceId → Bool
+may_serve shown (ids.Chan object) = freed_last shown.chans object
+may_serve shown service = true

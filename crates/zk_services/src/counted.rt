@@ -2,11 +2,14 @@ ghost use Rattle.std.specs.Prelude.{◌≡◌, ℕ, true, None};
 ghost use Rattle.zk_worker.specs.declared.steps.StepReply.{StepReply};
 ghost use Rattle.zk_worker.specs.Attempt.{reply_in};
 ghost use Rattle.zk_worker.specs.Families.{answer_at};
-ghost use Rattle.zk_services.specs.Counted.{service_of, count_at, entries_at};
+ghost use Rattle.zk_services.specs.Counted.{service_of, count_at, entries_at, frees, freed_last, may_serve};
 ghost use Rattle.zk_services.specs.Objects.{starts_of, histories_of};
+ghost use Rattle.zk_bus.specs.Seen.{chan_history};
 
 use crate::plain::Plain;
 use zk_base::{Service, Who};
+use zk_bus::Channel;
+use zk_model_bus::ChanOp;
 use zk_worker::{Services, Step};
 
 /// One of the services of a scenario; an object's is named by the object's number.
@@ -54,6 +57,10 @@ pub trait Counted: Services {
     fn entries(&self, service: ServiceId) -> u64
         ensures { result ≡ entries_at (Self.shown self.now) service };
 
+    /// Whether the last entry of a service may have made a step of another player possible. It may say so where none has.
+    fn may_serve(&self, service: ServiceId) -> bool
+        ensures { result ≡ may_serve (Self.shown self.now) service };
+
     /// Whether it is plain that this step isn't possible now, so that an attempt would be in vain. It may say no where it
     /// would be.
     fn is_futile(&self, who: Who, step: &Step) -> bool
@@ -82,6 +89,28 @@ fn is_futile_at<S: Service>(objects: &Vec<Option<S>>, object: u32, who: Who, op:
     }
 }
 
+/// Whether a channel may go to somebody who waits by this operation.
+#[inline(always)]
+fn frees(op: &ChanOp) -> bool
+    ensures { result ≡ frees op.now }
+{
+    matches!(op, ChanOp::Free | ChanOp::Finish)
+}
+
+/// Whether the last entry of a channel may be one by which it went to somebody who waits.
+#[inline(always)]
+fn freed_last(chans: &Vec<Option<Channel>>, object: u32) -> bool
+    ensures { result ≡ freed_last (histories_of chan_history chans.now.items) object }
+{
+    match chans.get(object as usize) {
+        Some(Some(channel)) => match channel.history().last() {
+            Some(entry) => frees(&entry.op),
+            None => true,
+        },
+        _ => true,
+    }
+}
+
 impl Counted for Plain {
     // In line: each turn of a player that waits asks this.
     #[inline(always)]
@@ -95,6 +124,14 @@ impl Counted for Plain {
             ServiceId::Signal(object) => entries_of(&self.signals, object),
             ServiceId::Chan(object) => entries_of(&self.chans, object),
             ServiceId::Obs(object) => entries_of(&self.observers, object),
+        }
+    }
+
+    #[inline(always)]
+    fn may_serve(&self, service: ServiceId) -> bool {
+        match service {
+            ServiceId::Chan(object) => freed_last(&self.chans, object),
+            _ => true,
         }
     }
 

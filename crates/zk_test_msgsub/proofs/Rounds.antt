@@ -10,7 +10,8 @@ use Rattle.zk_test_msgsub.specs.declared.parts.Shared.{Shared}
 use Rattle.zk_test_msgsub.specs.declared.parts.TheConstants.{ROUNDS}
 use Rattle.zk_test_msgsub.specs.Parts.{IsSending}
 
-pub one-more : (f : Shared) (n : ℕ) (old new : Publisher) → IsSending f n old → n < ROUNDS → IsPublisherOf f.fan f.subs.items new →
+pub one-more : (f : Shared) (n : ℕ) (old new : Publisher) → IsSending f n old → n < ROUNDS →
+    IsPublisherOf f.fan f.subs.items new →
     publisher_room old ≤ publisher_room new + 1 →
     ((k : ℕ) → All (λ s. k < seat_room s) (publisher_seats old) → All (λ s. k ≤ seat_room s) (publisher_seats new)) →
     IsSending f (n + 1) new
@@ -20,8 +21,10 @@ one-more f n old new sending below own room falls =
     record {
       own = own;
       room = omega arith;
-      rooms = All-weaker (λ s. k ≤ seat_room s) (λ s. ROUNDS ≤ seat_room s + (n + 1)) (λ s some. omega arith) (publisher_seats new)
-          (falls k (All-weaker (λ s. ROUNDS ≤ seat_room s + n) (λ s. k < seat_room s) (λ s some. omega arith) (publisher_seats old)
+      rooms = All-weaker (λ s. k ≤ seat_room s) (λ s. ROUNDS ≤ seat_room s + (n + 1)) (λ s some. omega arith)
+          (publisher_seats new)
+          (falls k (All-weaker (λ s. ROUNDS ≤ seat_room s + n) (λ s. k < seat_room s) (λ s some. omega arith)
+          (publisher_seats old)
           sending.rooms));
     }
 

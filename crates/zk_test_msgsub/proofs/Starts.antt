@@ -30,7 +30,8 @@ changes fan p (who, new) =
     }
 
 -- a new publisher has sent nothing
-pub sends : (f : Shared) (publisher : Publisher) (pass : FanPass) (seats : List PubSeat) → IsFresh f.fan pass → AreFreshSeats f seats →
+pub sends : (f : Shared) (publisher : Publisher) (pass : FanPass) (seats : List PubSeat) → IsFresh f.fan pass →
+    AreFreshSeats f seats →
     publisher_pass publisher ≡ Some pass → publisher_seats publisher ≡ seats → IsPublisherOf f.fan f.subs.items publisher →
     IsSending f 0 publisher
 sends f publisher pass seats (who, new) fresh there is own =
@@ -44,7 +45,8 @@ sends f publisher pass seats (who, new) fresh there is own =
     }
 
 -- new seats at the two subscribers
-pub fresh-seats : (f : Shared) (seats : List PubSeat) (m m' : MsgSub) (s s' : PubSeat) → f.subs.items ≡ m ∷ m' ∷ [] → seats ≡ s ∷ s' ∷ [] →
+pub fresh-seats : (f : Shared) (seats : List PubSeat) (m m' : MsgSub) (s s' : PubSeat) → f.subs.items ≡ m ∷ m' ∷ [] →
+    seats ≡ s ∷ s' ∷ [] →
     IsNewSeat m s → IsNewSeat m' s' → sub_each m ≡ ROUNDS → sub_each m' ≡ ROUNDS → AreFreshSeats f seats
 fresh-seats f seats m m' s s' subs are new new' each each' =
     let room = new.room in
@@ -53,10 +55,14 @@ fresh-seats f seats m m' s s' subs are new new' each each' =
     record {
       own = subst (λ (y : List MsgSub × List PubSeat). AreSeatsOf y.0 y.1) (λ i. (sym subs i, sym are i))
           (record { many = refl; each = of-two });
-      rooms = subst (All Roomy) (sym are) (All-cons Roomy s (s' ∷ []) (omega arith) (All-cons Roomy s' [] (omega arith) (All-nil Roomy)));
+      rooms = subst (All Roomy) (sym are) (All-cons Roomy s (s' ∷ []) (omega arith)
+          (All-cons Roomy s' [] (omega arith) (All-nil Roomy)));
     }
   where
-    of-two : (k : ℕ) (n : MsgSub) (q : PubSeat) → slice_get (m ∷ m' ∷ []) k ≡ Some n → slice_get (s ∷ s' ∷ []) k ≡ Some q → IsSeatOf n q
-    of-two zero n q at there = subst (λ (y : MsgSub × PubSeat). IsSeatOf y.0 y.1) (λ i. (same_Some m n at i, same_Some s q there i)) new.own
-    of-two (suc zero) n q at there = subst (λ (y : MsgSub × PubSeat). IsSeatOf y.0 y.1) (λ i. (same_Some m' n at i, same_Some s' q there i)) new'.own
+    of-two : (k : ℕ) (n : MsgSub) (q : PubSeat) → slice_get (m ∷ m' ∷ []) k ≡ Some n → slice_get (s ∷ s' ∷ []) k ≡ Some q →
+        IsSeatOf n q
+    of-two zero n q at there = subst (λ (y : MsgSub × PubSeat). IsSeatOf y.0 y.1)
+        (λ i. (same_Some m n at i, same_Some s q there i)) new.own
+    of-two (suc zero) n q at there = subst (λ (y : MsgSub × PubSeat). IsSeatOf y.0 y.1)
+        (λ i. (same_Some m' n at i, same_Some s' q there i)) new'.own
     of-two (suc (suc k)) n q at there = absurd (cc)

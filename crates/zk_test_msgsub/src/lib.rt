@@ -2,7 +2,6 @@
 //! come and go.
 #![tactic(auto)]
 
-mod dealt;
 #[cfg(test)]
 mod fan_tests;
 mod parts;

@@ -5,7 +5,6 @@ ghost use Rattle.zk_msgsub.specs.Fan.{fan_machine};
 ghost use Rattle.zk_msgsub.specs.FanSeen.{fan_start};
 ghost use Rattle.zk_test_msgsub.specs.Parts.{AreFreshSeats, AreTakers, HasSeatsOf, IsDone, IsFresh, IsOpen, IsReady};
 
-use crate::dealt::last_pass;
 use crate::parts::{Part, ROUNDS, Shared, play_each};
 use crate::seats::two_seats;
 use std::alloc::Global;
@@ -13,7 +12,7 @@ use std::sync::Wait;
 use std::thread::Threads;
 use zk_base::{Entry, Few, NoMemory, Service, Who};
 use zk_msgsub::{Fan, FanOp, FanReply, MsgSub, Note, PubSeat, Publisher, Sent, SubSeat};
-use zk_turn::{Cell, Pass};
+use zk_turn::{Cell, Pass, last_pass};
 
 const FIRST: Who = Who { number: 0, prio: 0 };
 

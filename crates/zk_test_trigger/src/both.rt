@@ -1,14 +1,13 @@
 ghost use Rattle.std.specs.Prelude.{◌+◌, ◌≤◌, IfOk};
 ghost use Rattle.zk_test_trigger.specs.Pumped.{IsArmer, IsReady};
 
-use crate::dealt::last_pass;
 use crate::ranges::names_in_range;
 use std::alloc::Global;
 use std::sync::Wait;
 use zk_base::{NoMemory, Who};
 use zk_model_work::Submitted;
 use zk_trigger::{Pump, Trigger, TriggerOp, TriggerReply};
-use zk_turn::{Cell, Pass};
+use zk_turn::{Cell, Pass, last_pass};
 use zk_work::Work;
 
 const ARMER: Who = Who { number: 0, prio: 0 };

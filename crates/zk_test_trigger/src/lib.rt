@@ -3,7 +3,6 @@
 #![tactic(auto)]
 
 mod both;
-mod dealt;
 #[cfg(test)]
 mod draws;
 #[cfg(test)]

@@ -16,7 +16,7 @@ mod word;
 
 pub use cell::Cell;
 pub use held::Held;
-pub use pass::Pass;
+pub use pass::{Pass, last_pass};
 pub use rule::{
     Announce, Await, Beginning, Deal, Draw, LoadCount, LoadWord, Measure, Merge, PassOn, Publish,
     Recall, Stamp, TurnRule, Weigh,

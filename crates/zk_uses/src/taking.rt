@@ -6,7 +6,7 @@ ghost use Rattle.zk_uses.specs.Callers.{AreNew};
 
 use crate::often::Caller;
 use zk_base::{Service, Who};
-use zk_turn::{Cell, Pass};
+use zk_turn::{Cell, Pass, last_pass};
 
 /// The caller for the last of the passes that a new cell gave.
 pub fn last_caller<S: Service>(cell: &Cell<S>, who: Who, passes: &mut Vec<Pass<S>>) -> Caller<S>
@@ -17,9 +17,7 @@ pub fn last_caller<S: Service>(cell: &Cell<S>, who: Who, passes: &mut Vec<Pass<S
         AreNewPasses (IsLegal S.machine) S.start cell.now (others ++ who ∷ []) passes.old.items →
         AreNewPasses (IsLegal S.machine) S.start cell.now others passes.new.items }
 {
-    let Some(pass) = passes.pop() else {
-        unreachable!()
-    };
+    let pass = last_pass(cell, who, passes);
     Caller { who, pass }
 }
 

@@ -13,13 +13,15 @@ last_of_each-requires g c =
     let l = c.loop-sub in
     record {
       some = rows-some c.pop.new.self.items c.in-Some.sub c.args.size.messages l.rows.items
-          (subst (λ (subs : List MsgSub). AreRows subs c.args.size.messages l.rows.items) c.in-Some.ensures.items l.invariant.rows);
+          (subst (λ (subs : List MsgSub). AreRows subs c.args.size.messages l.rows.items) c.in-Some.ensures.items
+          l.invariant.rows);
     }
 
 pub close-requires-clause-own : goal.close-requires-clause-own
 close-requires-clause-own g c =
     let l = c.loop-sub in
-    own-seats c.pop.new.self.items c.in-Some.sub c.args.size.messages l.rows.items c.last_of_each.new.lines.items c.in_ok-seats.seats.items
+    own-seats c.pop.new.self.items c.in-Some.sub c.args.size.messages l.rows.items c.last_of_each.new.lines.items
+    c.in_ok-seats.seats.items
     (subst (λ (subs : List MsgSub). AreRows subs c.args.size.messages l.rows.items) c.in-Some.ensures.items l.invariant.rows)
     c.in_ok-seats.ensures.taken
 
@@ -46,7 +48,8 @@ loop-sub-preserved g c =
     let all = subst (λ (y : List MsgSub × List SubSeat). AreSubs size y.0 y.1)
     (λ i. (c.in-Some.ensures.items i, c.in-Some-pop.ensures.items i)) inv.subs in
     let popped = subs-pop size front c.pop-in-Some.new.self.items m t all in
-    let heard : IsHeard size left.items = heard-all front m size.messages l.rows.items rest seats are taken size t left.items refl inv.many popped.1 popped.2
+    let heard : IsHeard size left.items = heard-all front m size.messages l.rows.items rest seats are taken size t left.items
+    refl inv.many popped.1 popped.2
     c.in_ok-close.ensures.parts c.in_ok-close.ensures.known in
     let pushed = c.push_within.ensures in
     let mapped : map notes_in c.push_within.new.items.items ≡ map notes_in l.heard.items ++ left.items ∷ [] =
@@ -64,5 +67,6 @@ loop-sub-preserved g c =
       many = taken.many ∙ inv.many;
       all = omega arith;
       room = omega arith;
-      each = subst (All (IsHeard size)) (sym mapped) (All-push (IsHeard size) (map notes_in l.heard.items) left.items inv.each heard);
+      each = subst (All (IsHeard size)) (sym mapped) (All-push (IsHeard size) (map notes_in l.heard.items) left.items inv.each
+          heard);
     }

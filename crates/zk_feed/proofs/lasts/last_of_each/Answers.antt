@@ -18,7 +18,8 @@ unreachable-requires c =
     let given = ap (λ (ls : List (Vec PubSeat Global)). length ls) c.deref_mut-line-items.ensures.value in
     let inside : i < length l.line-items = omega arith in
     let here = slice_get_read l.line-items (length l.line-items) i line refl inside c.line-item.is in
-    let some = All-at (λ (s : Vec PubSeat Global). 0 < s.len) c.args.lines.now.items i line c.requires.some (sym (l.invariant.left i (omega arith)) ∙ here) in
+    let some = All-at (λ (s : Vec PubSeat Global). 0 < s.len) c.args.lines.now.items i line c.requires.some
+    (sym (l.invariant.left i (omega arith)) ∙ here) in
     let none = c.in_default.ensures.cases.0 in
     let same : vec_len line ≡ vec_len (get_or l.line-items i line) = ap (λ (s : Vec PubSeat Global). s.len) c.line-item.is in
     omega arith
@@ -48,9 +49,11 @@ loop-line-preserved c =
       many = length-set l.line-items i c.pop.new.self ∙ many;
       count = omega arith;
       room = omega arith;
-      taken = λ k o n x at there at'. taken-more old l.line-items l.lasts.items i line c.pop.new.self last inside so_many here is inv.left inv.taken
+      taken = λ k o n x at there at'. taken-more old l.line-items l.lasts.items i line c.pop.new.self last inside so_many here
+          is inv.left inv.taken
           k o n x at there (subst (λ (ls : List PubSeat). slice_get ls k ≡ Some x) pushed.items at');
-      left = λ k behind. left-still old l.line-items l.lasts.items i line c.pop.new.self last inside so_many here is inv.left k behind;
+      left = λ k behind. left-still old l.line-items l.lasts.items i line c.pop.new.self last inside so_many here is inv.left
+          k behind;
     }
 
 pub returns : goal.returns

@@ -23,7 +23,8 @@ loop-notes-preserved c =
     let place : l.number ≡ 0 + length inv.printed = omega arith in
     record {
       printed = inv.printed ++ notes.items ∷ [];
-      all = print-next inv.printed (map notes_in l.heard.items) (map notes_in after.items) (backwards (map notes_in c.args.heard.items)) notes.items
+      all = print-next inv.printed (map notes_in l.heard.items) (map notes_in after.items)
+          (backwards (map notes_in c.args.heard.items)) notes.items
           inv.all (ap (map notes_in) is ∙ map-append notes_in after.items (notes ∷ []));
       count = omega arith;
       left = omega arith;

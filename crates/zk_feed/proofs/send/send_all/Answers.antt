@@ -19,9 +19,11 @@ loop-sent-preserved g c =
     let below = c.loop-sent-test.true in
     let same = c.deref.ensures.value in
     let own = subst (λ (subs : List MsgSub). IsPublisherOf f.fan subs new) same c.send.ensures.own in
-    let has = subst (λ (y : List MsgSub × Message). HasSent f.fan y.0 y.1 old new sent) (λ i. (same i, c.message_of.ensures i)) c.in-Ok.ensures.sent in
+    let has = subst (λ (y : List MsgSub × Message). HasSent f.fan y.0 y.1 old new sent)
+    (λ i. (same i, c.message_of.ensures i)) c.in-Ok.ensures.sent in
     let rooms = rooms-after f c.requires.open p n old new sent feeding below own has c.send.ensures.rooms in
     let next : suc n ≡ n + 1 = omega arith in (
       l.invariant.0,
-      subst (λ (k : ℕ). IsFeeding f p k new) next (one-more f c.requires.open p n old new sent feeding below own has c.send.ensures.room rooms),
+      subst (λ (k : ℕ). IsFeeding f p k new) next (one-more f c.requires.open p n old new sent feeding below own has
+          c.send.ensures.room rooms),
     )

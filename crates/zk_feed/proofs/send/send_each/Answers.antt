@@ -20,23 +20,28 @@ use Rattle.zk_feed.proofs.send.send_each.Goals as goal
 
 pub for_each_mut-requires-send-T : goal.for_each_mut-requires-send-T
 for_each_mut-requires-send-T g c κs within =
-    param_send 1 (lts.arg-2-1 g.row.R g.row.G g.R.laws g.G.laws g.R.Threads-dict g.R.Wait-dict g.G.Gate-dict κs) (arg_send _ no _ feeder_send)
+    param_send 1 (lts.arg-2-1 g.row.R g.row.G g.R.laws g.G.laws g.R.Threads-dict g.R.Wait-dict g.G.Gate-dict κs)
+    (arg_send _ no _ feeder_send)
 
 -- what all publishers look at
-looked_at : (R G : RattleType) (laws : Laws R) (laws' : Laws G) (threads wait gate : Dict) (κs : Lfts 9) → IsSync (param 0 R) → IsSync (param 1 G) → IsSync (lts.arg-2-2 R G laws laws' threads wait gate κs)
+looked_at : (R G : RattleType) (laws : Laws R) (laws' : Laws G) (threads wait gate : Dict) (κs : Lfts 9) →
+    IsSync (param 0 R) → IsSync (param 1 G) → IsSync (lts.arg-2-2 R G laws laws' threads wait gate κs)
 looked_at R G laws laws' threads wait gate κs sync sync' =
     let to_rt : NamedLft = record { mir = named 6; lft = κs.1.1.1.1.1.1.0 } in
     let to_shared : NamedLft = record { mir = named 7; lft = κs.1.1.1.1.1.1.1.0 } in
     let to_gate : NamedLft = record { mir = named 8; lft = κs.1.1.1.1.1.1.1.1.0 } in
-    let held = closure_of_three _ (Field.shr_ref_field to_rt (param 0 R) tt).row (Field.shr_ref_field to_shared shared.the_row tt).row
+    let held = closure_of_three _ (Field.shr_ref_field to_rt (param 0 R) tt).row
+    (Field.shr_ref_field to_shared shared.the_row tt).row
     (Field.shr_ref_field to_gate (param 1 G) tt).row
-    (ref_sync to_rt (param 0 R) tt sync) (ref_sync to_shared shared.the_row tt shared_sync) (ref_sync to_gate (param 1 G) tt sync') in
+    (ref_sync to_rt (param 0 R) tt sync) (ref_sync to_shared shared.the_row tt shared_sync)
+    (ref_sync to_gate (param 1 G) tt sync') in
     arg_sync _ no _ held
 
 pub for_each_mut-requires-sync-F : goal.for_each_mut-requires-sync-F
 for_each_mut-requires-sync-F g c κs within =
     param_sync 2 (lts.arg-2-2 g.row.R g.row.G g.R.laws g.G.laws g.R.Threads-dict g.R.Wait-dict g.G.Gate-dict κs)
-    (looked_at g.row.R g.row.G g.R.laws g.G.laws g.R.Threads-dict g.R.Wait-dict g.G.Gate-dict κs c.type_bounds.sync-R c.type_bounds.sync-G)
+    (looked_at g.row.R g.row.G g.R.laws g.G.laws g.R.Threads-dict g.R.Wait-dict g.G.Gate-dict κs c.type_bounds.sync-R
+    c.type_bounds.sync-G)
 
 pub returns : goal.returns
 returns g c =

@@ -17,9 +17,14 @@ loop-made-preserved c =
     let subs = c.push_within.ensures in
     let takers = c.push_within-in-loop-made.ensures in
     let columns = c.push_within-in-loop-made-2.ensures in
-    let of : IsSubOf size m = record { capacity = c.in_ok-sub.ensures.capacity; publishers = c.in_ok-sub.ensures.publishers; each = c.in_ok-sub.ensures.each } in
+    let of : IsSubOf size m = record {
+      capacity = c.in_ok-sub.ensures.capacity;
+      publishers = c.in_ok-sub.ensures.publishers;
+      each = c.in_ok-sub.ensures.each;
+    } in
     let idle : IsIdle m t = record { own = c.in_ok-sub.ensures.taker; taken = c.in_ok-sub.ensures.taken } in
-    let column : IsColumn m size.publishers seats.items = record { fresh = c.in_ok-sub.ensures.seats; order = c.in_ok-sub.ensures.order } in
+    let column : IsColumn m size.publishers seats.items =
+    record { fresh = c.in_ok-sub.ensures.seats; order = c.in_ok-sub.ensures.order } in
     let made = inv.made in
     let taker_made = inv.takers in
     let seats_made = inv.seats in
@@ -36,7 +41,8 @@ loop-made-preserved c =
       subs = subst (λ (y : List MsgSub × List SubSeat). AreSubs size y.0 y.1) (λ i. (sym subs.items i, sym takers.items i))
           (subs-push size l.subs.items l.takers.items m t inv.subs of idle);
       columns = subst (λ (y : List MsgSub × List (Vec PubSeat Global)). AreColumns size.publishers y.0 y.1)
-          (λ i. (sym subs.items i, sym columns.items i)) (columns-push size.publishers l.subs.items l.columns.items m seats inv.columns column);
+          (λ i. (sym subs.items i, sym columns.items i))
+          (columns-push size.publishers l.subs.items l.columns.items m seats inv.columns column);
       made = omega arith;
       takers = omega arith;
       seats = omega arith;

@@ -1,16 +1,20 @@
-use Rattle.std.proofs.Common.{◌+◌, ◌-◌, ◌∙◌, suc, sym, vec_len, arith}
+use Rattle.std.proofs.Common.{◌+◌, ◌-◌, ◌||◌, Bool, ◌∙◌, suc, sym, subst, vec_len, arith}
 use Rattle.zk_worker.specs.Machines.{machines_of}
 use Rattle.zk_world.specs.World.{world}
-use Rattle.zk_replay.proofs.Asleep.{within-passed}
+use Rattle.zk_replay.specs.Turning.{WithinRound}
+use Rattle.zk_replay.proofs.Asleep.{within-asleep}
 use Rattle.zk_replay.proofs.Rounds.{within-left, within-spent, within-next}
 use Rattle.zk_replay.proofs.turns.play_round.Goals as goal
 
-pub loop-number-preserved-then-passed-gt0 : goal.loop-number-preserved-then-passed-gt0
-loop-number-preserved-then-passed-gt0 g c =
+pub asleep_from-asleep-requires : goal.asleep_from-asleep-requires
+asleep_from-asleep-requires g c = omega (arith, c.loop-number.invariant.within.ready.few, c.loop-number-test.true, c.len.ensures)
+
+pub loop-number-preserved-then-asleep-gt0 : goal.loop-number-preserved-then-asleep-gt0
+loop-number-preserved-then-asleep-gt0 g c =
     let s = c.args.scenario.now in
     let m = machines_of s in
     let p = c.loop-number.number in
-    let k = c.passed_over-passed.result in
+    let k = c.asleep_from-asleep.result in
     let old = world (g.V.Services.shown c.args.services.now) c.args.players.now.items in
     let shown = g.V.Services.shown c.loop-number.services in
     let players = c.loop-number.players in
@@ -19,13 +23,14 @@ loop-number-preserved-then-passed-gt0 g c =
       alone = c.loop-number.invariant.alone;
       places = c.loop-number.invariant.places;
       kept = c.loop-number.invariant.kept;
-      asleep = c.passed_over-passed.ensures.asleep;
+      asleep = c.loop-number.invariant.asleep;
       within = within-left m s old (world shown players.items) c.loop-number.moved (n - k) (vec_len players - (p + k)) (p + k) (omega arith)
-          (within-passed s old shown players.items c.loop-number.moved n k p c.passed_over-passed.ensures.passed c.loop-number.invariant.within);
+          (within-asleep s old shown players.items c.loop-number.sleepers c.loop-number.moved n k p c.loop-number.invariant.asleep
+          c.asleep_from-asleep.ensures.all c.loop-number.invariant.within);
     }
 
-pub returns-then-turn-clause-rounded : goal.returns-then-turn-clause-rounded
-returns-then-turn-clause-rounded g c =
+pub returns-then-has_spent-clause-rounded : goal.returns-then-has_spent-clause-rounded
+returns-then-has_spent-clause-rounded g c =
     let s = c.args.scenario.now in
     let m = machines_of s in
     let p = c.loop-number.number in
@@ -36,7 +41,7 @@ returns-then-turn-clause-rounded g c =
     within-spent m s old now new c.loop-number.moved n p c.in_ok-turn.turn
     (within-left m s old now c.loop-number.moved (vec_len c.loop-number.players - p) (suc n) p (omega (arith, c.loop-number-test.true, c.len.ensures)) c.loop-number.invariant.within)
     c.in_ok-turn.ensures.turned
-    c.if-turn.true
+    (sym c.has_spent.ensures ∙ c.if-has_spent.true)
 
 pub loop-number-preserved : goal.loop-number-preserved
 loop-number-preserved g c =
@@ -50,11 +55,12 @@ loop-number-preserved g c =
     let next = within-next m s old now new c.loop-number.moved n p c.in_ok-turn.turn
     (within-left m s old now c.loop-number.moved (vec_len c.loop-number.players - p) (suc n) p (omega (arith, c.loop-number-test.true, c.len.ensures)) c.loop-number.invariant.within)
     c.in_ok-turn.ensures.turned
-    c.if-turn.false in
+    (sym c.has_spent.ensures ∙ c.if-has_spent.false) in
     record {
       alone = c.take_turn.ensures.alone;
       places = c.take_turn.ensures.places ∙ c.loop-number.invariant.places ∙ sym c.take_turn.ensures.players;
       kept = c.in_ok-turn.ensures.kept;
       asleep = c.in_ok-turn.ensures.asleep;
-      within = within-left m s old new _ n (vec_len c.take_turn.new.players - (p + 1)) (p + 1) (omega (arith, c.take_turn.ensures.players)) next;
+      within = within-left m s old new _ n (vec_len c.take_turn.new.players - (p + 1)) (p + 1) (omega (arith, c.take_turn.ensures.players))
+          (subst (λ (b : Bool). WithinRound m s old new (c.loop-number.moved || b) n (p + 1)) (sym c.has_moved.ensures) next);
     }

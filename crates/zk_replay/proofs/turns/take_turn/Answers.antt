@@ -1,4 +1,4 @@
-use Rattle.std.proofs.Common.{◌≡◌, Bool, Some, length, set, refl, sym, subst, arith}
+use Rattle.std.proofs.Common.{◌≡◌, Bool, Some, length, set, refl, sym, subst, ◌∙◌, arith}
 use Rattle.std.specs.List.{slice_get}
 use Rattle.std.proofs.lemmas.Option.{slice_get_read}
 use Rattle.zk_base.proofs.Lists.{All-at}
@@ -9,7 +9,7 @@ use Rattle.zk_worker.specs.Ranges.{IsFit}
 use Rattle.zk_world.specs.World.{world}
 use Rattle.zk_world.proofs.Readiness.{short-shown}
 use Rattle.zk_replay.specs.LastTurns.{IsKept}
-use Rattle.zk_replay.specs.Turning.{IsTurn}
+use Rattle.zk_replay.specs.Turning.{has_moved, IsTurn}
 use Rattle.zk_replay.proofs.Asleep.{asleep-moved, asleep-stayed}
 use Rattle.zk_replay.proofs.InVain.{kept-turned}
 use Rattle.zk_replay.proofs.Rounds.{turned-with}
@@ -57,8 +57,8 @@ play_or_pass-requires-clause-kept g c =
     slice_get_read waiting.items (length waiting.items) c.args.number kept refl (omega (arith, c.requires.number, c.requires.places, players.ok.0, waiting.ok.0)) c.index_mut-kept.ensures.value in
     subst (λ (m : Machines). IsKept m s shown at kept) (sym c.requires.alone.machines) (c.requires.kept c.args.number at kept is of_it)
 
-pub returns-then-turn-clause-turned : goal.returns-then-turn-clause-turned
-returns-then-turn-clause-turned g c =
+pub returns-then-has_moved-clause-turned : goal.returns-then-has_moved-clause-turned
+returns-then-has_moved-clause-turned g c =
     let players = c.args.players.now in
     let at = c.index_mut-player.result.now in
     let is : slice_get players.items c.args.number ≡ Some at = slice_get_read players.items (length players.items) c.args.number at refl (omega (arith, c.requires.number, players.ok.0)) c.index_mut-player.ensures.value in
@@ -73,8 +73,8 @@ returns-clause-turned g c =
     turned-with (g.V.Services.machines c.args.services.now) c.args.scenario.now (g.V.Services.shown c.args.services.now) (g.V.Services.shown c.play_or_pass.new.services) players.items _ c.args.number at
     c.play_or_pass.new.player c.in_ok-turn.turn c.requires.alone.machines c.requires.ready c.requires.unspent is refl c.in_ok-turn.ensures.turn c.in_ok-turn.ensures.spent
 
-pub returns-then-turn-clause-kept : goal.returns-then-turn-clause-kept
-returns-then-turn-clause-kept g c =
+pub returns-then-has_moved-clause-kept : goal.returns-then-has_moved-clause-kept
+returns-then-has_moved-clause-kept g c =
     let s = c.args.scenario.now in
     let m = machines_of s in
     let players = c.args.players.now in
@@ -83,9 +83,9 @@ returns-then-turn-clause-kept g c =
     let new = g.V.Services.shown c.play_or_pass.new.services in
     let at = c.index_mut-player.result.now in
     let at' = c.play_or_pass.new.player in
-    let turn : IsTurn m s at at' old new c.in_ok-turn.turn.moved = subst (λ (x : Machines). IsTurn x s at at' old new c.in_ok-turn.turn.moved) c.requires.alone.machines c.in_ok-turn.ensures.turn in
+    let turn : IsTurn m s at at' old new (has_moved c.in_ok-turn.turn) = subst (λ (x : Machines). IsTurn x s at at' old new (has_moved c.in_ok-turn.turn)) c.requires.alone.machines c.in_ok-turn.ensures.turn in
     let kept : IsKept m s new at' c.play_or_pass.new.kept = subst (λ (x : Machines). IsKept x s new at' c.play_or_pass.new.kept) c.requires.alone.machines c.in_ok-turn.ensures.kept in
-    kept-turned m s old new players.items _ c.args.waiting.now.items _ n at at' c.play_or_pass.new.kept c.in_ok-turn.turn.moved c.requires.kept turn refl refl kept
+    kept-turned m s old new players.items _ c.args.waiting.now.items _ n at at' c.play_or_pass.new.kept (has_moved c.in_ok-turn.turn) c.requires.kept turn refl refl kept
 
 pub returns-clause-kept : goal.returns-clause-kept
 returns-clause-kept g c =
@@ -97,12 +97,12 @@ returns-clause-kept g c =
     let new = g.V.Services.shown c.play_or_pass.new.services in
     let at = c.index_mut-player.result.now in
     let at' = c.play_or_pass.new.player in
-    let turn : IsTurn m s at at' old new c.in_ok-turn.turn.moved = subst (λ (x : Machines). IsTurn x s at at' old new c.in_ok-turn.turn.moved) c.requires.alone.machines c.in_ok-turn.ensures.turn in
+    let turn : IsTurn m s at at' old new (has_moved c.in_ok-turn.turn) = subst (λ (x : Machines). IsTurn x s at at' old new (has_moved c.in_ok-turn.turn)) c.requires.alone.machines c.in_ok-turn.ensures.turn in
     let kept : IsKept m s new at' c.play_or_pass.new.kept = subst (λ (x : Machines). IsKept x s new at' c.play_or_pass.new.kept) c.requires.alone.machines c.in_ok-turn.ensures.kept in
-    kept-turned m s old new players.items _ c.args.waiting.now.items _ n at at' c.play_or_pass.new.kept c.in_ok-turn.turn.moved c.requires.kept turn refl refl kept
+    kept-turned m s old new players.items _ c.args.waiting.now.items _ n at at' c.play_or_pass.new.kept (has_moved c.in_ok-turn.turn) c.requires.kept turn refl refl kept
 
-pub returns-then-turn-clause-asleep : goal.returns-then-turn-clause-asleep
-returns-then-turn-clause-asleep g c =
+pub returns-then-has_moved-clause-asleep : goal.returns-then-has_moved-clause-asleep
+returns-then-has_moved-clause-asleep g c =
     let s = c.args.scenario.now in
     let m = machines_of s in
     let players = c.args.players.now in
@@ -111,9 +111,11 @@ returns-then-turn-clause-asleep g c =
     let new = g.V.Services.shown c.play_or_pass.new.services in
     let at = c.index_mut-player.result.now in
     let at' = c.play_or_pass.new.player in
-    let turn : IsTurn m s at at' old new c.in_ok-turn.turn.moved = subst (λ (x : Machines). IsTurn x s at at' old new c.in_ok-turn.turn.moved) c.requires.alone.machines c.in_ok-turn.ensures.turn in
+    let turn : IsTurn m s at at' old new (has_moved c.in_ok-turn.turn) = subst (λ (x : Machines). IsTurn x s at at' old new (has_moved c.in_ok-turn.turn)) c.requires.alone.machines c.in_ok-turn.ensures.turn in
+    let is : slice_get players.items n ≡ Some at = slice_get_read players.items (length players.items) n at refl (omega (arith, c.requires.number, players.ok.0)) c.index_mut-player.ensures.value in
     asleep-moved m s old new players.items (set players.items n at') c.args.sleepers.now c.wake.new.sleepers n at at' c.requires.asleep refl
-    c.requires.awake (subst (λ (b : Bool). IsTurn m s at at' old new b) c.if-turn.true turn) c.wake.ensures
+    refl c.requires.ready.numbers is
+    c.requires.awake (subst (λ (b : Bool). IsTurn m s at at' old new b) (sym c.has_moved.ensures ∙ c.if-has_moved.true) turn) c.wake.ensures
 
 pub returns-clause-asleep : goal.returns-clause-asleep
 returns-clause-asleep g c =
@@ -125,7 +127,7 @@ returns-clause-asleep g c =
     let new = g.V.Services.shown c.play_or_pass.new.services in
     let at = c.index_mut-player.result.now in
     let at' = c.play_or_pass.new.player in
-    let turn : IsTurn m s at at' old new c.in_ok-turn.turn.moved = subst (λ (x : Machines). IsTurn x s at at' old new c.in_ok-turn.turn.moved) c.requires.alone.machines c.in_ok-turn.ensures.turn in
+    let turn : IsTurn m s at at' old new (has_moved c.in_ok-turn.turn) = subst (λ (x : Machines). IsTurn x s at at' old new (has_moved c.in_ok-turn.turn)) c.requires.alone.machines c.in_ok-turn.ensures.turn in
     let kept : IsKept m s new at' c.play_or_pass.new.kept = subst (λ (x : Machines). IsKept x s new at' c.play_or_pass.new.kept) c.requires.alone.machines c.in_ok-turn.ensures.kept in
     asleep-stayed m s old new players.items (set players.items n at') c.args.sleepers.now c.fall_asleep.new.sleepers n at at' c.requires.asleep refl
-    c.play_or_pass.new.kept (subst (λ (b : Bool). IsTurn m s at at' old new b) c.if-turn.false turn) kept c.fall_asleep.ensures
+    c.play_or_pass.new.kept (subst (λ (b : Bool). IsTurn m s at at' old new b) (sym c.has_moved.ensures ∙ c.if-has_moved.false) turn) kept c.fall_asleep.ensures

@@ -17,7 +17,8 @@ for_each_mut-requires-send-T g c κs within =
     param_send 1 (lts.arg-2-1 g.row.R g.R.laws g.R.Threads-dict g.R.Wait-dict κs) (arg_send _ no _ part_send)
 
 -- what each thread looks at
-looked_at : (R : RattleType) (laws : Laws R) (threads wait : Dict) (κs : Lfts 8) → IsSync (param 0 R) → IsSync (lts.arg-2-2 R laws threads wait κs)
+looked_at : (R : RattleType) (laws : Laws R) (threads wait : Dict) (κs : Lfts 8) → IsSync (param 0 R) →
+    IsSync (lts.arg-2-2 R laws threads wait κs)
 looked_at R laws threads wait κs sync =
     let to_rt : NamedLft = record { mir = named 6; lft = κs.1.1.1.1.1.1.0 } in
     let to_shared : NamedLft = record { mir = named 7; lft = κs.1.1.1.1.1.1.1.0 } in

@@ -18,7 +18,8 @@ loop-pass-init c =
     let ok = c.args.passes.ok.0 in
     record {
       items = c.into_iter-pass-iterator.ensures.into_iter_gives.0;
-      many = (new-passes f.fan (players_upto f.size.publishers) c.args.passes.items c.requires.passes).0 ∙ players-many f.size.publishers;
+      many = (new-passes f.fan (players_upto f.size.publishers) c.args.passes.items c.requires.passes).0
+          ∙ players-many f.size.publishers;
       rows = c.requires.rows;
       ready = record {
         count = ap (λ (l : List Feeder). length l) none;
@@ -59,16 +60,19 @@ loop-pass-preserved c =
     let here = subst (λ (ps : List FanPass). slice_get ps n ≡ Some pass) whole (at-end l.yielded rest pass) in
     let all = new-passes f.fan (players_upto f.size.publishers) c.args.passes.items c.requires.passes in
     let fresh = All-at (IsFresh f.fan) c.args.passes.items n pass all.1 here in
-    let rows = new-rows-pop f.size f.subs.items n l.rows.items c.pop.new.self.items seats c.in-Some-pop.ensures.items l.invariant.rows in
+    let rows = new-rows-pop f.size f.subs.items n l.rows.items c.pop.new.self.items seats c.in-Some-pop.ensures.items
+    l.invariant.rows in
     let own : IsPublisherOf f.fan f.subs.items publisher = c.new.ensures.own f.fan f.subs.items fresh.0 fresh.1 rows.1.row.own in
-    let feeding = starts-feeding f n publisher pass seats.items fresh.0 fresh.1 rows.1 c.new.ensures.pass c.new.ensures.seats own in
+    let feeding = starts-feeding f n publisher pass seats.items fresh.0 fresh.1 rows.1 c.new.ensures.pass c.new.ensures.seats
+    own in
     let pushed = c.push_within.ensures in
     let long = length-append l.yielded (pass ∷ []) in
     let long' = length-append l.yielded (pass ∷ rest) in
     let count = ap (λ (ps : List FanPass). length ps) whole in
     let many = all.0 in
     let players = players-many f.size.publishers in
-    let one : IsReady f n (record { publisher = publisher; refused = false }) = record { below = omega arith; fine = refl; feeding = feeding } in
+    let one : IsReady f n (record { publisher = publisher; refused = false }) =
+    record { below = omega arith; fine = refl; feeding = feeding } in
     let made = l.invariant.made in
     let room = l.invariant.room in
     let len = pushed.len in

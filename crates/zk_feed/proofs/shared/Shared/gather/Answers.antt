@@ -45,7 +45,8 @@ loop-feeder-preserved c =
     c.joined.ensures in
     record {
       items = append_assoc l.yielded (feeder ∷ []) _ ∙ whole;
-      so_far = subst (λ (rows : List (Vec PubSeat Global)). IsGathered f (length (l.yielded ++ feeder ∷ [])) c.joined.result rows) (sym pushed.items)
+      so_far = subst (λ (rows : List (Vec PubSeat Global)). IsGathered f (length (l.yielded ++ feeder ∷ [])) c.joined.result
+          rows) (sym pushed.items)
           (subst (λ (n : ℕ). IsGathered f n c.joined.result (l.rows.items ++ c.finish-pass.result.1 ∷ [])) (sym long) one);
       made = (let len = pushed.len in omega arith);
       room = (let kept = pushed.capacity in omega arith);

@@ -4,13 +4,13 @@ use Rattle.zk_worker.specs.Protocol.{attempts}
 use Rattle.zk_replay.specs.declared.last_turn.Asked.{Asked}
 use Rattle.zk_replay.specs.LastTurns.{counted_again}
 use Rattle.zk_replay.proofs.InVain.{counted-asked, written-back}
-use Rattle.zk_replay.proofs.last_turn.keep.Goals as goal
+use Rattle.zk_replay.proofs.last_turn.keep_vain.Goals as goal
 
-pub returns-then-kept-clause-asked : goal.returns-then-kept-clause-asked
-returns-then-kept-clause-asked g c = λ still.
+pub returns-then-kept : goal.returns-then-kept
+returns-then-kept g c =
     let shown = g.V.Services.shown c.args.services.now in
     let ahead = attempts c.args.scenario.now c.args.player.now in
-    let was = c.requires.again still c.if-kept.true in
+    let was = c.requires c.if-kept.true in
     let held = c.args.kept.now.asked in
     let new = c.count_again.new.asked in
     let counted : new ≡ map (counted_again shown) held.items = c.count_again.ensures ∙ ap (λ (l : List Asked). map (counted_again shown) l) c.deref_mut.ensures.value in

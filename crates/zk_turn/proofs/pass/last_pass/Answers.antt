@@ -2,7 +2,7 @@ use Rattle.std.proofs.Common.{◌-◌, take, ap, [], ◌∷◌, ◌++◌, subst,
 use Rattle.zk_base.specs.Legal.{IsLegal}
 use Rattle.zk_turn.specs.Passes.{AreNewPasses}
 use Rattle.zk_turn.proofs.Dealing.{AreNewPasses-some, AreNewPasses-pop}
-use Rattle.zk_test_trigger.proofs.dealt.last_pass.Goals as goal
+use Rattle.zk_turn.proofs.pass.last_pass.Goals as goal
 
 pub unreachable-requires : goal.unreachable-requires
 unreachable-requires g c =
