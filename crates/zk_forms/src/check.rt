@@ -1,4 +1,4 @@
-ghost use Rattle.std.specs.Prelude.{◌≡◌, ◌+◌, ◌^◌, ◌<◌, ◌≤◌, ◌++◌, length, IfOk, Ok};
+ghost use Rattle.std.specs.Prelude.{◌≡◌, ◌+◌, ◌^◌, ◌<◌, ◌≤◌, ◌++◌, length, IfOk, Ok, OnOk};
 ghost use Rattle.zk_scenario.specs.Grammar.{scenario_of};
 ghost use Rattle.zk_scenario.specs.Spelling.{text_of};
 ghost use Rattle.zk_trace.specs.Parting.{AreParts};
@@ -69,7 +69,7 @@ fn lawful(alloc: Global) -> Result<Vec<u8>, NoMemory>
 }
 
 /// The word of a reason.
-fn fail_word(fail: Fail) -> &'static [u8]
+pub fn fail_word(fail: Fail) -> &'static [u8]
     ensures { result.now ≡ fail_word fail }
 {
     match fail {
@@ -81,16 +81,23 @@ fn fail_word(fail: Fail) -> &'static [u8]
     }
 }
 
-/// The line of a trace that isn't lawful.
+/// Appends the line of a trace that isn't lawful.
+pub fn put_unlawful(out: &mut Vec<u8>, line: u32, fail: Fail) -> Result<(), NoMemory>
+    ensures { OnOk result (out.new.items ≡ out.old.items ++ unlawful_text line fail) }
+{
+    put(out, b"unlawful ")?;
+    put_decimal(out, u64::from(line))?;
+    put(out, b" ")?;
+    put(out, fail_word(fail))?;
+    put(out, b"\n")
+}
+
+/// That line.
 fn unlawful(alloc: Global, line: u32, fail: Fail) -> Result<Vec<u8>, NoMemory>
     ensures { IfOk result (λ text. text.items ≡ unlawful_text line fail) }
 {
     let mut text = Vec::new(alloc);
-    put(&mut text, b"unlawful ")?;
-    put_decimal(&mut text, u64::from(line))?;
-    put(&mut text, b" ")?;
-    put(&mut text, fail_word(fail))?;
-    put(&mut text, b"\n")?;
+    put_unlawful(&mut text, line, fail)?;
     Ok(text)
 }
 

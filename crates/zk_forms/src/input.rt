@@ -51,16 +51,22 @@ pub fn read_input<S: Source>(
     ensures counts { IfOk result (λ _. S.faults source.new ≡ S.faults source.old) }
 {
     let mut bytes = Vec::new(alloc);
+    let mut chunk = [0; CHUNK];
     while bytes.len() <= limit {
-        if read_some(source, &mut bytes, limit)? == 0 {
+        if read_some(source, &mut chunk, &mut bytes, limit)? == 0 {
             return Ok(bytes);
         }
     }
     Ok(bytes)
 }
 
-/// Reads once, to the end of these bytes, and never past one byte above the limit.
-fn read_some<S: Source>(source: &mut S, bytes: &mut Vec<u8>, limit: usize) -> Result<usize, NoInput>
+/// Reads once into a chunk, puts what came behind these bytes, and never reads past one byte above the limit.
+fn read_some<S: Source>(
+    source: &mut S,
+    chunk: &mut [u8; CHUNK],
+    bytes: &mut Vec<u8>,
+    limit: usize,
+) -> Result<usize, NoInput>
     requires small { limit < 2 ^ 32 }
     requires within { vec_len bytes.old ≤ limit }
     ensures most { GaveAtMost (limit + 1 - vec_len bytes.old) (S.left source.old) (S.left source.new) }
@@ -70,7 +76,6 @@ fn read_some<S: Source>(source: &mut S, bytes: &mut Vec<u8>, limit: usize) -> Re
     ensures fault { IfErr result (λ e. IsCaused (S.faults source.old) (S.faults source.new) e) }
     ensures counts { IfOk result (λ _. S.faults source.new ≡ S.faults source.old) }
 {
-    let mut chunk = [0; CHUNK];
     let most = CHUNK.min(limit + 1 - bytes.len());
     let into = &mut chunk[..most];
     let count = source.read(into)?;

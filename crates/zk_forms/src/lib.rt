@@ -16,7 +16,7 @@ mod soak;
 mod trigger;
 
 pub use answer::{cores_output, output_of};
-pub use check::{check_output, trace_refusal};
+pub use check::{check_output, fail_word, put_unlawful, trace_refusal};
 pub use event::events_output;
 pub use feeding::feed_output;
 pub use form::{Form, LONGEST_TRACE, form_of, limit_of};

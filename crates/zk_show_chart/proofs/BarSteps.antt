@@ -1,7 +1,7 @@
 -- What a step does to the bars: which begin, and that each stays one of its player's rows.
-use Rattle.std.proofs.Common.{◌≡◌, ℕ, ◌+◌, ◌<◌, nat_lt, ◌&&◌, Bool, true, false, List, [], ◌∷◌, ◌++◌, map, Option, Some, None, IfSome, length, take, drop, get_or, set, slice_get, cond, suc, append_assoc, refl, sym, ◌∙◌, ap, subst, arith}
-use Rattle.std.specs.List.{All, AllPairs, filter}
-use Rattle.std.proofs.lemmas.List.{append-nil, map-append, map-set, get_or-map, length-map}
+use Rattle.std.proofs.Common.{◌≡◌, ℕ, ◌+◌, ◌<◌, nat_lt, ◌&&◌, Bool, true, false, List, [], ◌∷◌, ◌++◌, map, Option, Some, None, length, drop, get_or, set, slice_get, cond, suc, append_assoc, refl, sym, ◌∙◌, ap, subst, arith}
+use Rattle.std.specs.List.{All, filter}
+use Rattle.std.proofs.lemmas.List.{append-nil, map-append}
 use Rattle.std.proofs.lemmas.List.Elements.{All-map, All-push, All-set, filter-append}
 use Rattle.std.proofs.lemmas.List.Quantifiers.{all_pairs_push}
 use Rattle.std.proofs.lemmas.Option.{slice_get-get_or}
@@ -11,7 +11,7 @@ use Rattle.zk_trace.specs.declared.trace.Trace.{Trace}
 use Rattle.zk_show_chart.specs.declared.chart.Bar.{Bar}
 use Rattle.zk_show_chart.specs.declared.chart.BarKind.{BarKind}
 use Rattle.zk_show_chart.specs.declared.chart.BarKind.TheVariants.{Run, Script, Wait}
-use Rattle.zk_show_chart.specs.Bars.{IsBar, IsAbove, start, runs_of, begins_run, starts_in, AreInOrder, Ends, Steps}
+use Rattle.zk_show_chart.specs.Bars.{IsAbove, start, runs_of, begins_run, starts_in, AreInOrder, Ends, Steps}
 use Rattle.zk_show_chart.specs.Marks.{is_run, begins_at, begun_rows}
 
 -- what begins above a row begins above the next

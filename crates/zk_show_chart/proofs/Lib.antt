@@ -3,3 +3,4 @@ pub mod BarSteps
 pub mod Cuts
 pub mod TextLines
 pub mod SaidLines
+pub mod RowTicks

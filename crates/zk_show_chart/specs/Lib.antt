@@ -1,3 +1,4 @@
+pub mod Answers
 pub mod Arrows
 pub mod Bars
 pub mod Charts
@@ -5,3 +6,4 @@ pub mod Lines
 pub mod Marks
 pub mod Passing
 pub mod Rows
+pub mod Ticks

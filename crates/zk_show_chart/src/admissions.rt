@@ -1,3 +1,5 @@
+use crate::ArrowKind;
+use crate::waits::Source;
 use std::alloc::Global;
 use zk_base::{Entry, NoMemory};
 use zk_model_work::{Expiry, Submitted, WorkOp, WorkReply};
@@ -26,6 +28,8 @@ struct Open {
 struct ItemState {
     /// The queue of its last delay.
     delayed: u32,
+    /// The row that set its delay, while that isn't over.
+    armed: Option<u32>,
     /// Its admission that stands in a line.
     waits: Option<Open>,
     /// Its admission that runs.
@@ -71,6 +75,7 @@ impl Admissions {
     ) -> Result<Admissions, NoMemory> {
         let idle = ItemState {
             delayed: 0,
+            armed: None,
             waits: None,
             runs: None,
         };
@@ -118,9 +123,58 @@ impl Admissions {
     }
 
     /// The item is delayed, to be submitted to this queue.
-    fn delayed(&mut self, item: u32, queue: u32) {
+    fn delayed(&mut self, item: u32, queue: u32, row: u32) {
         if let Some(state) = self.items.get_mut(item as usize) {
             state.delayed = queue;
+            state.armed = Some(row);
+        }
+    }
+
+    /// The item's delay is over, if it has one: what set it.
+    fn disarm(&mut self, item: u32) -> Source {
+        let row = self.items.get_mut(item as usize)?.armed.take()?;
+        Some((ArrowKind::Delay, row))
+    }
+
+    /// Delays are over: what set the first of them.
+    fn disarm_all(&mut self, expiries: &[Expiry]) -> Source {
+        let mut first = None;
+        for expiry in expiries {
+            let source = self.disarm(expiry.item);
+            if first.is_none() {
+                first = source;
+            }
+        }
+        first
+    }
+
+    /// What admitted the item, if it stands in a line.
+    fn admitted(&self, item: u32) -> Source {
+        let open = self.items.get(item as usize)?.waits?;
+        let row = self.told.get(open.number as usize)?;
+        Some((ArrowKind::Drop, *row))
+    }
+
+    /// What a cancel of the item undoes: an admission, else a delay.
+    fn cancelled(&mut self, item: u32) -> Source {
+        let delay = self.disarm(item);
+        let admission = self.admitted(item);
+        if admission.is_none() {
+            delay
+        } else {
+            admission
+        }
+    }
+
+    /// What an entry undoes or ends.
+    fn undone(&mut self, entry: &Entry<WorkOp, WorkReply>) -> Source {
+        if let WorkReply::Now(_, expiries) = &entry.reply {
+            return self.disarm_all(expiries.items());
+        }
+        match entry.op {
+            WorkOp::Cancel(item) | WorkOp::CancelStart(item) => self.cancelled(item),
+            WorkOp::FlushStart(item) | WorkOp::Reschedule(item, _, _) => self.disarm(item),
+            _ => None,
         }
     }
 
@@ -232,7 +286,7 @@ impl Admissions {
     fn take(&mut self, player: u32, entry: &Entry<WorkOp, WorkReply>, row: u32) {
         match entry.op {
             WorkOp::Schedule(item, queue, _) | WorkOp::Reschedule(item, queue, _) => {
-                self.delayed(item, queue);
+                self.delayed(item, queue, row);
             }
             WorkOp::Cancel(item) => self.dropped(item, row),
             WorkOp::CancelStart(item) => {
@@ -247,23 +301,22 @@ impl Admissions {
         }
     }
 
-    /// The row that this entry comes from: of a `begin` that of the admission, and of the end of a wait that of what ended it. The
-    /// entry stands in a row.
-    pub fn step(
-        &mut self,
-        entry: &Entry<WorkOp, WorkReply>,
-        row: u32,
-    ) -> Result<Option<u32>, NoMemory> {
+    /// What this entry comes from: a `begin` from the admission, the end of a wait from what ended it, and what ends a delay or
+    /// drops an admission from what set or admitted it. The entry stands in a row.
+    pub fn step(&mut self, entry: &Entry<WorkOp, WorkReply>, row: u32) -> Result<Source, NoMemory> {
         match (entry.op, &entry.reply) {
             (WorkOp::Begin(queue), WorkReply::Run(item, number)) => {
-                Ok(self.begun(queue, *item, *number))
+                let from = self.begun(queue, *item, *number);
+                Ok(from.map(|from| (ArrowKind::Admission, from)))
             }
             (WorkOp::CancelDone(_) | WorkOp::FlushDone(_) | WorkOp::DrainDone(_), _) => {
-                Ok(self.over(entry.who.number))
+                let from = self.over(entry.who.number);
+                Ok(from.map(|from| (ArrowKind::Completion, from)))
             }
             _ => {
+                let source = self.undone(entry);
                 self.go_on(entry, row)?;
-                Ok(None)
+                Ok(source)
             }
         }
     }

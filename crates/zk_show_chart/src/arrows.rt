@@ -4,12 +4,12 @@ ghost use Rattle.zk_show_chart.specs.Arrows.{IsArrow, AreByRow};
 use crate::admissions::Admissions;
 use crate::bars::row_count;
 use crate::marks::entry_of;
-use crate::waits::{Gives, Puts};
+use crate::raises::Raises;
+use crate::waits::{Frees, Gives, Puts, Source, Visits};
 use crate::{Arrow, ArrowKind};
 use std::alloc::Global;
-use zk_base::NoMemory;
+use zk_base::{NoMemory, Seen};
 use zk_model_bus::{ChanOp, ObsOp};
-use zk_model_work::WorkOp;
 use zk_scenario::{MOST_CHANS, Scenario};
 use zk_trace::{Stood, Trace};
 use zk_worker::Spot;
@@ -53,12 +53,12 @@ struct Done {
     // By object.
     sems: Vec<Gives>,
     msgqs: Vec<Puts>,
+    signals: Vec<Raises>,
+    chans: Vec<Frees>,
+    observers: Vec<Visits>,
     // By player.
     tells: Vec<Tells>,
 }
-
-/// What an arrow comes from, if there is one, and what it says.
-type Source = Option<(ArrowKind, u32)>;
 
 impl Done {
     fn new(alloc: Global, scenario: &Scenario) -> Result<Done, NoMemory> {
@@ -67,32 +67,32 @@ impl Done {
         for _ in 0..players {
             tells.push(Tells::new(alloc))?;
         }
-        let mut sems = Vec::new(alloc);
-        let mut msgqs = Vec::new(alloc);
-        for _ in scenario.decls() {
-            sems.push(Gives::new(alloc))?;
-            msgqs.push(Puts::new(alloc))?;
-        }
         let items = scenario.items().len();
         let queues = scenario.queues().len();
-        Ok(Done {
+        let mut done = Done {
             work: Admissions::new(alloc, items, queues, players as usize)?,
-            sems,
-            msgqs,
+            sems: Vec::new(alloc),
+            msgqs: Vec::new(alloc),
+            signals: Vec::new(alloc),
+            chans: Vec::new(alloc),
+            observers: Vec::new(alloc),
             tells,
-        })
+        };
+        for _ in scenario.decls() {
+            done.sems.push(Gives::new(alloc))?;
+            done.msgqs.push(Puts::new(alloc))?;
+            done.signals.push(Raises::new(alloc))?;
+            done.chans.push(Frees::new(alloc))?;
+            done.observers.push(Visits::new(alloc))?;
+        }
+        Ok(done)
     }
 
     fn work(&mut self, trace: &Trace, place: u64, row: u32) -> Result<Source, NoMemory> {
         let Some(entry) = trace.work.items().get(place as usize) else {
             return Ok(None);
         };
-        let source = self.work.step(entry, row)?;
-        let kind = match entry.op {
-            WorkOp::Begin(_) => ArrowKind::Admission,
-            _ => ArrowKind::Completion,
-        };
-        Ok(source.map(|from| (kind, from)))
+        self.work.step(entry, row)
     }
 
     fn sem(
@@ -105,11 +105,10 @@ impl Done {
         let Some(entry) = entry_of(trace.sems.items(), object, place) else {
             return Ok(None);
         };
-        let Some(sem) = self.sems.get_mut(object as usize) else {
-            return Ok(None);
-        };
-        let source = sem.step(entry, place, row)?;
-        Ok(source.map(|from| (ArrowKind::Give, from)))
+        match self.sems.get_mut(object as usize) {
+            Some(sem) => sem.step(entry, place, row),
+            None => Ok(None),
+        }
     }
 
     fn msgq(
@@ -122,11 +121,21 @@ impl Done {
         let Some(entry) = entry_of(trace.msgqs.items(), object, place) else {
             return Ok(None);
         };
-        let Some(msgq) = self.msgqs.get_mut(object as usize) else {
-            return Ok(None);
-        };
-        let source = msgq.step(entry, place, row)?;
-        Ok(source.map(|from| (ArrowKind::Message, from)))
+        match self.msgqs.get_mut(object as usize) {
+            Some(msgq) => msgq.step(entry, place, row),
+            None => Ok(None),
+        }
+    }
+
+    fn write(&mut self, object: u32, row: u32) -> Result<Source, NoMemory> {
+        if let Some(signal) = self.signals.get_mut(object as usize) {
+            signal.write(row)?;
+        }
+        Ok(None)
+    }
+
+    fn look(&self, object: u32, seen: &Seen) -> Source {
+        self.signals.get(object as usize)?.look(seen)
     }
 
     fn chan(
@@ -136,23 +145,43 @@ impl Done {
         object: u32,
         place: u64,
         row: u32,
-    ) -> Result<(), NoMemory> {
+    ) -> Result<Source, NoMemory> {
         let Some(entry) = entry_of(trace.chans.items(), object, place) else {
-            return Ok(());
+            return Ok(None);
         };
-        let Some(tells) = self.tells.get_mut(player as usize) else {
-            return Ok(());
-        };
-        tells.step(entry.op, row)
+        if let Some(tells) = self.tells.get_mut(player as usize) {
+            tells.step(entry.op, row)?;
+        }
+        match self.chans.get_mut(object as usize) {
+            Some(chan) => chan.step(entry, place, row),
+            None => Ok(None),
+        }
     }
 
-    fn obs(&self, trace: &Trace, player: u32, object: u32, place: u64) -> Source {
-        let entry = entry_of(trace.observers.items(), object, place)?;
-        let tells = self.tells.get(player as usize)?;
-        let from = tells.rows.last()?;
+    /// The row in which the player told observers last, if it is telling.
+    fn told(&self, player: u32) -> Source {
+        let from = self.tells.get(player as usize)?.rows.last()?;
+        Some((ArrowKind::Visit, *from))
+    }
+
+    fn obs(
+        &mut self,
+        trace: &Trace,
+        player: u32,
+        object: u32,
+        place: u64,
+        row: u32,
+    ) -> Result<Source, NoMemory> {
+        let Some(entry) = entry_of(trace.observers.items(), object, place) else {
+            return Ok(None);
+        };
+        let taken = match self.observers.get_mut(object as usize) {
+            Some(observer) => observer.step(entry, place, row)?,
+            None => None,
+        };
         match entry.op {
-            ObsOp::Visit(_) => Some((ArrowKind::Visit, *from)),
-            _ => None,
+            ObsOp::Visit(_) => Ok(self.told(player)),
+            _ => Ok(taken),
         }
     }
 
@@ -162,11 +191,10 @@ impl Done {
             Spot::Work(place) => self.work(trace, place, row),
             Spot::Sem(object, place) => self.sem(trace, object, place, row),
             Spot::Msgq(object, place) => self.msgq(trace, object, place, row),
-            Spot::Chan(object, place) => {
-                self.chan(trace, stood.player, object, place, row)?;
-                Ok(None)
-            }
-            Spot::Obs(object, place) => Ok(self.obs(trace, stood.player, object, place)),
+            Spot::Signal(object, _) => self.write(object, row),
+            Spot::Chan(object, place) => self.chan(trace, stood.player, object, place, row),
+            Spot::Obs(object, place) => self.obs(trace, stood.player, object, place, row),
+            Spot::LookSignal(object, seen) => Ok(self.look(object, &seen)),
             _ => Ok(None),
         }
     }

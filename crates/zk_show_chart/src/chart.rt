@@ -14,6 +14,8 @@ pub struct Chart<'a> {
     pub bars: Vec<Bar>,
     /// What leads from one row to another, by the row that it leads to.
     pub arrows: Vec<Arrow>,
+    /// The moments at which the time is told, by row.
+    pub ticks: Vec<Tick>,
 }
 
 /// A step.
@@ -71,10 +73,31 @@ pub enum ArrowKind {
     Admission,
     /// From a give to the end of the take that it served.
     Give,
-    /// From a put to the get of its message.
+    /// From a put to the get of its message, or from the visit of a subscriber to the take of its channel.
     Message,
     /// From the `set` or `list` of a publish or notify to each of its visits.
     Visit,
     /// From what ended the wait of a cancel, a flush or a drain to the end of that wait.
     Completion,
+    /// From the give or put for which a poll was registered to the poll's note of it.
+    Note,
+    /// From a raise of a signal to a look that saw it.
+    Raise,
+    /// From what freed a channel to the end of the wait that got it.
+    Handover,
+    /// From a reset, a purge or a get to the end of a wait that it ended.
+    Wake,
+    /// From what set an item's delay to what ended it: its expiry, a cancel, a flush, or what set another one.
+    Delay,
+    /// From what admitted an item to the cancel that dropped the admission.
+    Drop,
+}
+
+/// A step that tells the time.
+#[derive(Clone, Copy, PartialEq, Eq)]
+pub struct Tick {
+    /// Its row, from 0.
+    pub row: u32,
+    /// The time from then on, in ticks.
+    pub time: u64,
 }

@@ -5,7 +5,7 @@ ghost use Rattle.zk_show_chart.specs.Charts.{IsChart};
 
 use crate::lines::entry_lines;
 use crate::rows::{drawn_order, lines_at, rows_of};
-use crate::{Chart, arrows_of, bars_of};
+use crate::{Chart, arrows_of, bars_of, ticks_of};
 use std::alloc::Global;
 use zk_base::NoMemory;
 use zk_scenario::Scenario;
@@ -31,11 +31,13 @@ pub fn chart_of<'a>(
     let rows = rows_of(alloc, &stood, &lines, &order)?;
     let bars = bars_of(alloc, scenario, trace, &drawn)?;
     let arrows = arrows_of(alloc, scenario, trace, &drawn)?;
+    let ticks = ticks_of(alloc, trace, &drawn)?;
     Ok(Chart {
         ending: trace.ending,
         agrees,
         rows,
         bars,
         arrows,
+        ticks,
     })
 }

@@ -9,6 +9,7 @@ use Rattle.zk_show_svg.specs.declared.plan.Plan.{Plan}
 use Rattle.zk_show_svg.specs.Arrows.{arrow_mark}
 use Rattle.zk_show_svg.specs.Bars.{bar_mark}
 use Rattle.zk_show_svg.specs.Pictures.{AppendsPicture}
+use Rattle.zk_show_svg.specs.Ticks.{tick_mark}
 use Rattle.zk_show_svg.specs.Steps.{last_row, step_marks}
 
 -- a text was put, and then one more
@@ -21,21 +22,27 @@ front_more old a b x first next = front_then old a b first (front_put a x b next
 
 -- the parts of a picture, put one behind the other, are the picture
 pub picture_put : (players : ℕ) (chart : Chart) (plan : Plan) → plan.lanes ≡ players →
-    plan.rows ≡ min (length chart.rows.items) last_row → (old a b c d e f g new : List ℕ) →
+    plan.rows ≡ min (length chart.rows.items) last_row → (old a b c t d e f g new : List ℕ) →
     StaysInFront old a → StaysInFront a b → c ≡ b ++ flat_map (bar_mark plan) chart.bars.items →
-    d ≡ c ++ flat_map (arrow_mark plan chart.rows.items) chart.arrows.items → StaysInFront d e →
+    t ≡ c ++ flat_map (tick_mark plan) chart.ticks.items →
+    d ≡ t ++ flat_map (arrow_mark plan chart.rows.items) chart.arrows.items → StaysInFront d e →
     f ≡ e ++ step_marks plan 0 chart.rows.items → StaysInFront f g → new ≡ g ++ codes "</svg>\n" →
     AppendsPicture players chart old new
-picture_put players chart plan lanes rows old a b c d e f g new head ground bars arrows names steps notes closing =
+picture_put players chart plan lanes rows old a b c t d e f g new head ground bars ticks arrows names steps notes closing =
     let front : StaysInFront old b = front_then old a b head ground in
     let barred : c ≡ old ++ (front.more ++ flat_map (bar_mark plan) chart.bars.items) =
     put_more old b c _ _ front.behind bars in
+    let timed : t ≡ old ++ (front.more ++ flat_map (bar_mark plan) chart.bars.items
+    ++ flat_map (tick_mark plan) chart.ticks.items) = put_more old c t _ _ barred ticks in
     let pointed : d ≡ old ++ (front.more ++ flat_map (bar_mark plan) chart.bars.items
-    ++ flat_map (arrow_mark plan chart.rows.items) chart.arrows.items) = put_more old c d _ _ barred arrows in
+    ++ flat_map (tick_mark plan) chart.ticks.items
+    ++ flat_map (arrow_mark plan chart.rows.items) chart.arrows.items) = put_more old t d _ _ timed arrows in
     let named : e ≡ old ++ (front.more ++ flat_map (bar_mark plan) chart.bars.items
+    ++ flat_map (tick_mark plan) chart.ticks.items
     ++ flat_map (arrow_mark plan chart.rows.items) chart.arrows.items ++ names.more) =
     put_more old d e _ _ pointed names.behind in
     let stepped : f ≡ old ++ (front.more ++ flat_map (bar_mark plan) chart.bars.items
+    ++ flat_map (tick_mark plan) chart.ticks.items
     ++ flat_map (arrow_mark plan chart.rows.items) chart.arrows.items ++ names.more ++ step_marks plan 0 chart.rows.items) =
     put_more old e f _ _ named steps in (
       _,

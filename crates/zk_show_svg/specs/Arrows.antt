@@ -1,7 +1,7 @@
 use Rattle.std.specs.Prelude.{ℕ, ◌+◌, ◌-◌, ◌*◌, ◌%◌, List, [], ◌++◌, codes, decimal, Option, Some, None, slice_get, nat_lt, max, if◌then◌else◌}
 use Rattle.zk_show_chart.specs.declared.chart.Arrow.{Arrow}
 use Rattle.zk_show_chart.specs.declared.chart.ArrowKind.{ArrowKind}
-use Rattle.zk_show_chart.specs.declared.chart.ArrowKind.TheVariants.{Admission, Give, Message, Visit, Completion}
+use Rattle.zk_show_chart.specs.declared.chart.ArrowKind.TheVariants.{Admission, Give, Message, Visit, Completion, Note, Raise, Handover, Wake, Delay, Drop}
 use Rattle.zk_show_chart.specs.declared.chart.Row.{Row}
 use Rattle.zk_show_svg.specs.declared.arrows.Way.{Way}
 use Rattle.zk_show_svg.specs.declared.plan.Plan.{Plan}
@@ -14,6 +14,12 @@ arrow_element Give = codes "<path class=\"a a1\" d=\"M"
 arrow_element Message = codes "<path class=\"a a2\" d=\"M"
 arrow_element Visit = codes "<path class=\"a a3\" d=\"M"
 arrow_element Completion = codes "<path class=\"a a4\" d=\"M"
+arrow_element Note = codes "<path class=\"a a5\" d=\"M"
+arrow_element Raise = codes "<path class=\"a a6\" d=\"M"
+arrow_element Handover = codes "<path class=\"a a7\" d=\"M"
+arrow_element Wake = codes "<path class=\"a a8\" d=\"M"
+arrow_element Delay = codes "<path class=\"a a9\" d=\"M"
+arrow_element Drop = codes "<path class=\"a a10\" d=\"M"
 
 -- at which level of a row each kind begins and ends
 abbrev pub kind_number : ArrowKind → ℕ
@@ -22,6 +28,12 @@ kind_number Give = 1
 kind_number Message = 2
 kind_number Visit = 3
 kind_number Completion = 4
+kind_number Note = 1
+kind_number Raise = 2
+kind_number Handover = 3
+kind_number Wake = 4
+kind_number Delay = 0
+kind_number Drop = 0
 
 abbrev pub level : Plan → ArrowKind → ℕ
 level plan kind = plan.shape.arrow_top + kind_number kind * plan.shape.arrow_step

@@ -26,7 +26,8 @@ bar_width plan bar Run = plan.shape.run_width - inset plan bar
 bar_width plan bar Script = plan.shape.run_width - inset plan bar
 bar_width plan bar Wait = plan.shape.wait_width
 
--- from its first row to its last: a wait from below the box where it begins to the box where it ends
+-- from its first row to its last: a wait from below the box where it begins to the box where it ends, and a script to above the
+-- step that tells that it is over
 abbrev pub bar_top : Plan → Bar → BarKind → ℕ
 bar_top plan bar Run = row_top plan bar.first + 1
 bar_top plan bar Script = row_top plan bar.first + 1
@@ -34,7 +35,7 @@ bar_top plan bar Wait = row_top plan bar.first + (plan.shape.box_top + plan.shap
 
 abbrev pub last_bottom : Plan → BarKind → ℕ → ℕ
 last_bottom plan Run last = row_top plan last + 21
-last_bottom plan Script last = row_top plan last + 21
+last_bottom plan Script last = row_top plan last - 1
 last_bottom plan Wait last = row_top plan last + plan.shape.box_top
 
 -- what has no end goes on below the last row

@@ -1,5 +1,6 @@
-use Rattle.std.specs.Prelude.{◌≡◌, ℕ, ◌-◌, ◌==◌, Bool, not, nat_le, ◌&&◌, List, [], ◌∷◌, ◌++◌, length, take, codes, if◌then◌else◌}
+use Rattle.std.specs.Prelude.{◌≡◌, ℕ, ◌+◌, ◌-◌, ◌==◌, Bool, not, nat_le, ◌&&◌, List, [], ◌∷◌, ◌++◌, length, take, codes, if◌then◌else◌}
 use Rattle.std.specs.List.{flat_map}
+use Rattle.zk_show_chart.specs.Answers.{answer_in}
 
 -- what a reader sees of ASCII: a space up to a tilde
 abbrev pub is_printed : ℕ → Bool
@@ -20,9 +21,16 @@ escape b =
 abbrev pub escaped : List ℕ → List ℕ
 escaped text = flat_map escape text
 
--- a text of at most so many letters as it stands there; of a longer one the front, and two points
+-- a text of more letters than so many: two points stand for its middle, before what was answered, and where there is no room for
+-- that for its end
+unfoldable pub shortened : ℕ → List ℕ → List ℕ → List ℕ
+shortened letters text answer =
+    if nat_le (length answer + 2) letters then escaped (take (letters - (length answer + 2)) text) ++ codes ".." ++ escaped answer
+    else escaped (take (letters - 2) text) ++ codes ".."
+
+-- a text as it stands there, where at most so many letters have room
 unfoldable pub cut : ℕ → List ℕ → List ℕ
-cut letters text = if nat_le (length text) letters then escaped text else escaped (take (letters - 2) text) ++ codes ".."
+cut letters text = if nat_le (length text) letters then escaped text else shortened letters text (answer_in text)
 
 -- no byte that begins or ends an element or a value in one: `<`, `>` and the quotation mark
 abbrev pub IsHarmless : ℕ → Type 0

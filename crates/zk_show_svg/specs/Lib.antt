@@ -4,3 +4,4 @@ pub mod Escapes
 pub mod Places
 pub mod Pictures
 pub mod Steps
+pub mod Ticks

@@ -1,4 +1,4 @@
-use Rattle.std.specs.Prelude.{ℕ, ◌+◌, ◌-◌, ◌*◌, ◌/◌, List, ◌++◌, codes, decimal, if◌then◌else◌}
+use Rattle.std.specs.Prelude.{ℕ, ◌+◌, ◌-◌, ◌*◌, ◌/◌, nat_lt, max, List, ◌++◌, codes, decimal, if◌then◌else◌}
 use Rattle.zk_show_svg.specs.declared.plan.Plan.{Plan}
 
 -- the left edge of a player's lane
@@ -12,9 +12,17 @@ box_left plan player = lane_left plan player + plan.shape.box_left
 abbrev pub box_right : Plan → ℕ → ℕ
 box_right plan player = box_left plan player + plan.shape.box_width
 
--- the top of a row, below the lanes' names, which stand above each forty rows
+-- how often the lanes' names stand again above a row: above each forty, where the picture has more than sixty
+abbrev pub bands_above : Plan → ℕ → ℕ
+bands_above plan row = if nat_lt 60 plan.rows then row / 40 else 0
+
+-- the width of the picture: at least that of the legend
+abbrev pub width : Plan → ℕ
+width plan = max 780 (lane_left plan plan.lanes + 16)
+
+-- the top of a row, below the lanes' names
 abbrev pub row_top : Plan → ℕ → ℕ
-row_top plan row = 154 + (row / 40 + 1) * plan.shape.band + row * 22
+row_top plan row = 174 + (bands_above plan row + 1) * plan.shape.band + row * 22
 
 -- the bottom of the last row
 abbrev pub bottom : Plan → ℕ

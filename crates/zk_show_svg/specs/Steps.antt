@@ -1,6 +1,7 @@
 use Rattle.std.specs.Prelude.{ℕ, ◌+◌, ◌-◌, ◌*◌, ◌/◌, ◌^◌, min, ◌==◌, ◌||◌, Bool, true, false, List, [], ◌∷◌, ◌++◌, length, take, drop, position, codes, decimal, if◌then◌else◌, Option, Some, None}
 use Rattle.std.specs.Str.{bytes_eq}
 use Rattle.zk_show_chart.specs.declared.chart.Row.{Row}
+use Rattle.zk_show_chart.specs.Answers.{has_died, has_failed}
 use Rattle.zk_show_svg.specs.declared.plan.Plan.{Plan}
 use Rattle.zk_show_svg.specs.Escapes.{escaped, cut}
 use Rattle.zk_show_svg.specs.Places.{box_left, row_top, placed, sized}
@@ -38,16 +39,25 @@ tip row =
     tip_front ++ decimal row.line ++ codes ", " ++ escaped row.service.now ++ codes ": " ++ escaped row.text.now
     ++ codes "</title>"
 
--- what begins its box, or its dot where a lane is narrow
-abbrev pub box_element : Bool → List ℕ
-box_element true = codes "<rect class=\"b\""
-box_element false = codes "<rect class=\"d\""
+-- what begins its box, or its dot where a lane is narrow: of a step that failed another one
+abbrev pub box_element : Bool → Bool → List ℕ
+box_element true false = codes "<rect class=\"b\""
+box_element true true = codes "<rect class=\"b f\""
+box_element false false = codes "<rect class=\"d\""
+box_element false true = codes "<rect class=\"d f\""
 
 -- its box, in its player's lane
-unfoldable pub box_mark : Plan → ℕ → ℕ → List ℕ
-box_mark plan player top =
-    placed (box_element plan.shape.is_wide) (box_left plan player) (top + plan.shape.box_top)
+unfoldable pub box_mark : Plan → ℕ → ℕ → Bool → List ℕ
+box_mark plan player top failed =
+    placed (box_element plan.shape.is_wide failed) (box_left plan player) (top + plan.shape.box_top)
     ++ sized plan.shape.box_width plan.shape.box_height ++ codes " rx=\"" ++ decimal plan.shape.box_round ++ codes "\"/>"
+
+-- a cross below it, where its player was ended by it
+unfoldable pub cross : ℕ → ℕ → List ℕ
+cross left top = codes "<path class=\"x\" d=\"M" ++ decimal left ++ codes " " ++ decimal top ++ codes "l8 8m0 -8l-8 8\"/>"
+
+abbrev pub cross_mark : Plan → ℕ → ℕ → Bool → List ℕ
+cross_mark plan player top died = if died then cross (box_left plan player) (top + 25) else []
 
 -- whose step it is, where the words stand beside the lanes
 unfoldable pub who_mark : Plan → List ℕ → ℕ → List ℕ
@@ -83,7 +93,8 @@ line_mark line top = placed (codes "<text class=\"n\"") 60 (top + 15) ++ codes "
 -- all that is drawn of a step, in its row
 unfoldable pub step_mark : Plan → ℕ → Row → List ℕ
 step_mark plan place row =
-    tip row ++ box_mark plan row.player (row_top plan place) ++ who_mark plan row.text.now (row_top plan place)
+    tip row ++ box_mark plan row.player (row_top plan place) (has_failed (words row.text.now))
+    ++ cross_mark plan row.player (row_top plan place) (has_died (words row.text.now)) ++ who_mark plan row.text.now (row_top plan place)
     ++ words_mark plan row (row_top plan place) ++ line_mark row.line (row_top plan place)
 
 -- the last row that can be told apart from the others

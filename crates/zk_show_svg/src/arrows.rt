@@ -69,7 +69,7 @@ fn put_path_end(out: &mut Paper, way: &Way) -> Result<(), NoMemory>
 }
 
 /// What begins the path of an arrow.
-fn class_of(kind: ArrowKind) -> &'static [u8]
+pub fn class_of(kind: ArrowKind) -> &'static [u8]
     ensures { result.now ≡ arrow_element kind }
 {
     match kind {
@@ -78,6 +78,12 @@ fn class_of(kind: ArrowKind) -> &'static [u8]
         ArrowKind::Message => b"<path class=\"a a2\" d=\"M",
         ArrowKind::Visit => b"<path class=\"a a3\" d=\"M",
         ArrowKind::Completion => b"<path class=\"a a4\" d=\"M",
+        ArrowKind::Note => b"<path class=\"a a5\" d=\"M",
+        ArrowKind::Raise => b"<path class=\"a a6\" d=\"M",
+        ArrowKind::Handover => b"<path class=\"a a7\" d=\"M",
+        ArrowKind::Wake => b"<path class=\"a a8\" d=\"M",
+        ArrowKind::Delay => b"<path class=\"a a9\" d=\"M",
+        ArrowKind::Drop => b"<path class=\"a a10\" d=\"M",
     }
 }
 
@@ -136,10 +142,10 @@ fn kind_number(kind: ArrowKind) -> u64
     ensures few { result ≤ 4 }
 {
     match kind {
-        ArrowKind::Admission => 0,
-        ArrowKind::Give => 1,
-        ArrowKind::Message => 2,
-        ArrowKind::Visit => 3,
-        ArrowKind::Completion => 4,
+        ArrowKind::Admission | ArrowKind::Delay | ArrowKind::Drop => 0,
+        ArrowKind::Give | ArrowKind::Note => 1,
+        ArrowKind::Message | ArrowKind::Raise => 2,
+        ArrowKind::Visit | ArrowKind::Handover => 3,
+        ArrowKind::Completion | ArrowKind::Wake => 4,
     }
 }

@@ -87,6 +87,7 @@ fn along(plan: &Plan, bar: &Bar) -> (u64, u64)
     match bar.last {
         None => (top, plan.bottom() + 6),
         Some(last) if is_wait => (top, plan.row_top(last) + box_top),
+        Some(last) if bar.kind == BarKind::Script => (top, plan.row_top(last).saturating_sub(1)),
         Some(last) => (top, plan.row_top(last) + u64::from(ROW) - 1),
     }
 }

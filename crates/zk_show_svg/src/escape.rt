@@ -1,9 +1,10 @@
-ghost use Rattle.std.specs.Prelude.{◌≡◌, ℕ, List, ◌++◌, OnOk};
+ghost use Rattle.std.specs.Prelude.{◌≡◌, ◌<◌, ℕ, List, ◌++◌, length, OnOk};
 ghost use Rattle.std.specs.List.{list_all, AllByRecursion};
-ghost use Rattle.zk_show_svg.specs.Escapes.{is_plain, escape, escaped, cut, IsHarmless};
+ghost use Rattle.zk_show_svg.specs.Escapes.{is_plain, escape, escaped, shortened, cut, IsHarmless};
 
 use zk_base::NoMemory;
 use zk_paper::Paper;
+use zk_show_chart::answer_in;
 
 /// Appends a text so that it stands in the picture as a text.
 #[tactic(auto, using(crate::proofs::Escaping::escaped_plain))]
@@ -55,7 +56,7 @@ fn put_byte(out: &mut Paper, byte: u8) -> Result<(), NoMemory>
     }
 }
 
-/// Appends a text, and where it is longer than so many letters, only its front and two points.
+/// Appends a text, and where it is longer than so many letters, two points in place of its middle or its end.
 #[tactic(auto, unfolding(crate::specs::Escapes::cut))]
 pub fn put_cut(out: &mut Paper, text: &[u8], letters: usize) -> Result<(), NoMemory>
     ensures text { OnOk result (out.new.put ≡ out.old.put ++ cut letters text.now) }
@@ -63,6 +64,26 @@ pub fn put_cut(out: &mut Paper, text: &[u8], letters: usize) -> Result<(), NoMem
 {
     if text.len() <= letters {
         return put_escaped(out, text);
+    }
+    put_shortened(out, text, answer_in(text), letters)
+}
+
+/// Appends a text of more letters than so many, of which this is the answer.
+#[tactic(auto, unfolding(crate::specs::Escapes::shortened))]
+fn put_shortened(
+    out: &mut Paper,
+    text: &[u8],
+    answer: &[u8],
+    letters: usize,
+) -> Result<(), NoMemory>
+    requires { letters < length text.now }
+    ensures text { OnOk result (out.new.put ≡ out.old.put ++ shortened letters text.now answer.now) }
+    ensures front { out.new.front ≡ out.old.front }
+{
+    if answer.len() + 2 <= letters {
+        put_escaped(out, &text[..letters - (answer.len() + 2)])?;
+        out.put(b"..")?;
+        return put_escaped(out, answer);
     }
     put_escaped(out, &text[..letters.saturating_sub(2)])?;
     out.put(b"..")

@@ -2,8 +2,9 @@ ghost use Rattle.std.specs.Prelude.{◌≡◌, OnOk};
 ghost use Rattle.zk_base.specs.Fronts.{StaysInFront};
 
 use crate::attrs::{put_placed, put_sized};
+use crate::legend::put_legend;
 use crate::plan::{MARGIN, Plan, TOP};
-use crate::style::{DEFS, LEGEND, STYLE};
+use crate::style::{DEFS, STYLE};
 use zk_base::NoMemory;
 use zk_paper::Paper;
 use zk_show_chart::Chart;
@@ -57,7 +58,7 @@ fn put_heading(out: &mut Paper, plan: &Plan, chart: &Chart<'_>) -> Result<(), No
     out.put(b"<text class=\"h\" x=\"16\" y=\"30\">")?;
     put_outcome(out, plan, chart)?;
     out.put(b"</text>\n")?;
-    out.put(LEGEND)
+    put_legend(out, chart)
 }
 
 fn put_opening(out: &mut Paper, width: u64, height: u64) -> Result<(), NoMemory>

@@ -7,12 +7,14 @@ mod bars;
 mod escape;
 mod frame;
 mod lanes;
+mod legend;
 mod notes;
 mod picture;
 mod plan;
 mod rows;
 mod shape;
 mod style;
+mod ticks;
 mod words;
 
 pub use escape::texts_stay_texts;

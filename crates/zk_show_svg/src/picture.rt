@@ -9,6 +9,7 @@ use crate::lanes::{longest_name, put_lanes, put_names};
 use crate::notes::{notes_height, put_notes};
 use crate::plan::{MARGIN, Plan};
 use crate::rows::{number_of, put_rows};
+use crate::ticks::put_ticks;
 use std::mem;
 use zk_base::NoMemory;
 use zk_paper::Paper;
@@ -55,6 +56,7 @@ fn put_picture(
     put_head(out, &plan, chart, height)?;
     put_lanes(out, &plan)?;
     put_bars(out, &plan, &chart.bars)?;
+    put_ticks(out, &plan, &chart.ticks)?;
     put_arrows(out, &plan, rows, &chart.arrows)?;
     put_names(out, &plan, scenario)?;
     put_rows(out, &plan, rows)?;

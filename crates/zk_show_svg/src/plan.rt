@@ -1,5 +1,5 @@
 ghost use Rattle.std.specs.Prelude.{◌≡◌, ◌+◌, ◌<◌, ◌≤◌, ◌^◌};
-ghost use Rattle.zk_show_svg.specs.Places.{lane_left, box_left, box_right, row_top, bottom};
+ghost use Rattle.zk_show_svg.specs.Places.{lane_left, box_left, box_right, bands_above, row_top, width, bottom};
 ghost use Rattle.zk_show_svg.specs.Steps.{words_left, letters};
 
 use crate::shape::{LOG, LOG_LETTERS, Shape, shape_of};
@@ -14,10 +14,13 @@ pub const GUTTER: u16 = 52;
 pub const ROW: u16 = 22;
 
 /// Where the lanes begin.
-pub const TOP: u16 = 154;
+pub const TOP: u16 = 174;
 
-/// After so many rows the lanes' names stand there again.
+/// After so many rows the lanes' names stand there again, in a picture of more than `SHORT_ROWS`.
 pub const BAND_ROWS: u32 = 40;
+
+/// A picture of at most so many rows has the lanes' names at its top alone.
+pub const SHORT_ROWS: u32 = 60;
 
 /// The least width of the picture: the legend's.
 pub const LEAST_WIDTH: u64 = 780;
@@ -81,12 +84,22 @@ impl Plan {
         self.lane(player) + u64::from(self.shape.middle)
     }
 
+    /// How often the lanes' names stand again above a row.
+    fn bands_above(&self, row: u32) -> u32
+        ensures { result ≡ bands_above self.now row }
+    {
+        if self.rows <= SHORT_ROWS {
+            return 0;
+        }
+        row / BAND_ROWS
+    }
+
     /// The top of a row.
     pub fn row_top(&self, row: u32) -> u64
         ensures exact { result ≡ row_top self.now row }
         ensures small { result < 2 ^ 50 }
     {
-        let bands = u64::from(row / BAND_ROWS) + 1;
+        let bands = u64::from(self.bands_above(row)) + 1;
         u64::from(TOP) + bands * u64::from(self.shape.band) + u64::from(row) * u64::from(ROW)
     }
 
@@ -100,7 +113,7 @@ impl Plan {
 
     /// How many times the lanes' names stand there.
     pub fn bands(&self) -> u32 {
-        self.rows.saturating_sub(1) / BAND_ROWS + 1
+        self.bands_above(self.rows.saturating_sub(1)) + 1
     }
 
     /// The top of the lanes' names, each time that they stand there.
@@ -113,7 +126,8 @@ impl Plan {
 
     /// The width of the picture.
     pub fn width(&self) -> u64
-        ensures { result < 2 ^ 51 }
+        ensures exact { result ≡ width self.now }
+        ensures small { result < 2 ^ 51 }
     {
         LEAST_WIDTH.max(self.lane(self.lanes) + u64::from(MARGIN))
     }

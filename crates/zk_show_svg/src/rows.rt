@@ -1,5 +1,5 @@
 ghost use Rattle.std.specs.Prelude.{◌≡◌, ◌<◌, ◌^◌, ◌++◌, min, drop, OnOk};
-ghost use Rattle.zk_show_svg.specs.Steps.{last_row, tip_front, tip, box_element, box_mark, who_mark, served, said, words_mark, line_mark, step_mark, step_marks};
+ghost use Rattle.zk_show_svg.specs.Steps.{last_row, tip_front, tip, box_element, box_mark, cross, cross_mark, who_mark, served, said, words_mark, line_mark, step_mark, step_marks};
 
 use crate::attrs::{put_placed, put_sized};
 use crate::escape::{put_cut, put_escaped};
@@ -7,7 +7,7 @@ use crate::plan::{GUTTER, MARGIN, Plan};
 use crate::words::{parted, shown_service};
 use zk_base::{LONGEST_NAME, NoMemory};
 use zk_paper::Paper;
-use zk_show_chart::Row;
+use zk_show_chart::{Row, has_died, has_failed};
 
 /// From the top of a row to the foot of its letters.
 const FOOT: u64 = 15;
@@ -38,7 +38,9 @@ fn put_row(out: &mut Paper, plan: &Plan, place: u32, row: &Row<'_>) -> Result<()
 {
     let top = plan.row_top(place);
     put_tip(out, row)?;
-    put_box(out, plan, row.player, top)?;
+    let words = parted(row.text).1;
+    put_box(out, plan, row.player, top, has_failed(words))?;
+    put_cross(out, plan, row.player, top, has_died(words))?;
     put_who(out, plan, row.text, top)?;
     put_words(out, plan, row, top)?;
     put_line(out, row.line, top)
@@ -68,14 +70,25 @@ fn put_tip(out: &mut Paper, row: &Row<'_>) -> Result<(), NoMemory>
 }
 
 #[tactic(auto, unfolding(crate::specs::Steps::box_mark))]
-fn put_box(out: &mut Paper, plan: &Plan, player: u32, top: u64) -> Result<(), NoMemory>
+fn put_box(
+    out: &mut Paper,
+    plan: &Plan,
+    player: u32,
+    top: u64,
+    failed: bool,
+) -> Result<(), NoMemory>
     requires { top < 2 ^ 60 }
-    ensures text { OnOk result (out.new.put ≡ out.old.put ++ box_mark plan.now player top) }
+    ensures text { OnOk result (out.new.put ≡ out.old.put ++ box_mark plan.now player top failed) }
     ensures front { out.new.front ≡ out.old.front }
 {
     let shape = &plan.shape;
     let y = top + u64::from(shape.box_top);
-    put_placed(out, box_element(shape.is_wide), plan.box_left(player), y)?;
+    put_placed(
+        out,
+        box_element(shape.is_wide, failed),
+        plan.box_left(player),
+        y,
+    )?;
     put_sized(out, u64::from(shape.box_width), u64::from(shape.box_height))?;
     out.put(b" rx=\"")?;
     out.put_number(u64::from(shape.box_round))?;
@@ -83,14 +96,45 @@ fn put_box(out: &mut Paper, plan: &Plan, player: u32, top: u64) -> Result<(), No
 }
 
 /// What begins a step's box, or its dot.
-fn box_element(is_wide: bool) -> &'static [u8]
-    ensures { result.now ≡ box_element is_wide }
+fn box_element(is_wide: bool, failed: bool) -> &'static [u8]
+    ensures { result.now ≡ box_element is_wide failed }
 {
-    if is_wide {
-        b"<rect class=\"b\""
-    } else {
-        b"<rect class=\"d\""
+    match (is_wide, failed) {
+        (true, false) => b"<rect class=\"b\"",
+        (true, true) => b"<rect class=\"b f\"",
+        (false, false) => b"<rect class=\"d\"",
+        (false, true) => b"<rect class=\"d f\"",
     }
+}
+
+/// Appends a cross below a step that ended its player.
+fn put_cross(
+    out: &mut Paper,
+    plan: &Plan,
+    player: u32,
+    top: u64,
+    died: bool,
+) -> Result<(), NoMemory>
+    requires { top < 2 ^ 60 }
+    ensures text { OnOk result (out.new.put ≡ out.old.put ++ cross_mark plan.now player top died) }
+    ensures front { out.new.front ≡ out.old.front }
+{
+    if !died {
+        return Ok(());
+    }
+    put_lines_across(out, plan.box_left(player), top + 25)
+}
+
+#[tactic(auto, unfolding(crate::specs::Steps::cross))]
+fn put_lines_across(out: &mut Paper, left: u64, top: u64) -> Result<(), NoMemory>
+    ensures text { OnOk result (out.new.put ≡ out.old.put ++ cross left top) }
+    ensures front { out.new.front ≡ out.old.front }
+{
+    out.put(b"<path class=\"x\" d=\"M")?;
+    out.put_number(left)?;
+    out.push(b' ')?;
+    out.put_number(top)?;
+    out.put(b"l8 8m0 -8l-8 8\"/>")
 }
 
 /// Appends whose step it is, where the words stand beside the lanes.

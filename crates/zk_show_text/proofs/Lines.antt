@@ -5,7 +5,8 @@ use Rattle.std.specs.List.{position}
 use Rattle.std.proofs.lemmas.Bool.{leb-true, ne_eqb}
 use Rattle.std.proofs.lemmas.List.Quantifiers.{position-Some}
 use Rattle.std.proofs.Math.Seq.{drop-cons}
-use Rattle.zk_show_text.specs.Line.{fitted, with_front, trimmed, line, cut, is_ink, room_before, room_in, put_over, laid}
+use Rattle.zk_show_chart.specs.Answers.{answer_in}
+use Rattle.zk_show_text.specs.Line.{fitted, with_front, trimmed, line, shortened, cut, is_ink, room_before, room_in, put_over, laid}
 
 -- what is longer is cut off
 pub fitted_long : (size : ℕ) (text : List ℕ) → size ≤ length text → fitted size text ≡ take size text
@@ -57,15 +58,32 @@ trimmed_at text end some within ink none =
     front ∙ sym (trimmed_front (take (end - 1) text) c (drop end text) (ne_eqb c 32 ink) none) ∙ ap trimmed whole
 
 -- what is cut is no longer than its room
-pub length-cut : (room : ℕ) (text : List ℕ) → length (cut room text) ≤ room
-length-cut room text = by_test (nat_le (length text) room) refl
+length-shortened : (room : ℕ) (text answer : List ℕ) → length (shortened room text answer) ≤ room
+length-shortened room text answer = by_test (nat_le (length answer + 2) room) refl
   where
+    front : List ℕ
+    front = take (room - (length answer + 2)) text
+
     dotted : List ℕ
     dotted = take (room - 2) text ++ codes ".."
 
-    by_test : (b : Bool) → nat_le (length text) room ≡ b → length (cond b text (take room dotted)) ≤ room
+    by_test : (b : Bool) → nat_le (length answer + 2) room ≡ b → length (cond b (front ++ codes ".." ++ answer) (take room dotted)) ≤ room
+    by_test true is =
+        let fits = leb-true (length answer + 2) room is in
+        let few = length-take (room - (length answer + 2)) text in
+        let all = length-append (front ++ codes "..") answer in
+        let before = length-append front (codes "..") in
+        let dots : length (codes "..") ≡ 2 = refl in
+        let within : length (front ++ codes ".." ++ answer) ≤ room = omega arith in
+        within
+    by_test false is = let few = length-take room dotted in let within : length (take room dotted) ≤ room = omega arith in within
+
+pub length-cut : (room : ℕ) (text : List ℕ) → length (cut room text) ≤ room
+length-cut room text = by_test (nat_le (length text) room) refl
+  where
+    by_test : (b : Bool) → nat_le (length text) room ≡ b → length (cond b text (shortened room text (answer_in text))) ≤ room
     by_test true is = leb-true (length text) room is
-    by_test false is = let few = length-take room dotted in omega arith
+    by_test false is = length-shortened room text (answer_in text)
 
 -- no line has more characters than it had
 pub length-put_over : (at : ℕ) (text old : List ℕ) → at + length text ≤ length old → length (put_over at text old) ≡ length old

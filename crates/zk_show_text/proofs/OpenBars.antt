@@ -4,8 +4,10 @@ use Rattle.std.specs.List.{All, AllByRecursion, AllPairs, filter}
 use Rattle.std.proofs.lemmas.List.{append-nil, get_or-map, get_or-drop, length-map, take-append-drop, take_more}
 use Rattle.std.proofs.lemmas.List.Elements.{filter-append, All-push, recursion_from_All}
 use Rattle.std.proofs.lemmas.Option.{slice_get-get_or}
-use Rattle.std.proofs.lemmas.Bool.{le-leb, lt-leb, leb-true, false≢true}
+use Rattle.std.proofs.lemmas.Bool.{le-leb, lt-leb, lt-ltb, leb-true, ltb-true, false≢true}
 use Rattle.zk_show_chart.specs.declared.chart.Bar.{Bar}
+use Rattle.zk_show_chart.specs.declared.chart.BarKind.{BarKind}
+use Rattle.zk_show_chart.specs.declared.chart.BarKind.TheVariants as kinds
 use Rattle.zk_show_chart.specs.Bars.{start, AreInOrder}
 use Rattle.zk_show_text.specs.Marks.{reaches, is_open, open_at}
 use Rattle.zk_show_text.specs.Opened.{AreOpened, IsBelow}
@@ -29,7 +31,7 @@ filter_twice p q (x ∷ xs) each = twice_one p q x xs (p x) (q x) refl refl each
 
 -- a bar that begins below a row doesn't go through it
 not_yet : (row : ℕ) (bar : Bar) → row < bar.first → is_open row bar ≡ false
-not_yet row bar below = ap (λ b. b && reaches row bar.last) (lt-leb bar.first row below)
+not_yet row bar below = ap (λ b. b && reaches row bar.kind bar.last) (lt-leb bar.first row below)
 
 -- bars further on begin further below
 later : (row : ℕ) (bars : List Bar) (next k : ℕ) (d : Bar) → AreInOrder (map start bars) → next + k < length bars
@@ -73,15 +75,17 @@ both : (a b : Bool) → a ≡ true → b ≡ true → (a && b) ≡ true
 both a b isa isb = ap (λ x. x && b) isa ∙ isb
 
 -- what doesn't end above the next row doesn't end above this one
-reaches_less : (row : ℕ) (last : Option ℕ) → reaches (row + 1) last ≡ true → reaches row last ≡ true
-reaches_less row None is = refl
-reaches_less row (Some last) is = let within : row + 1 ≤ last = leb-true (row + 1) last is in le-leb row last (omega arith)
+reaches_less : (row : ℕ) (kind : BarKind) (last : Option ℕ) → reaches (row + 1) kind last ≡ true → reaches row kind last ≡ true
+reaches_less row kind None is = refl
+reaches_less row kinds.Run (Some last) is = let within : row + 1 ≤ last = leb-true (row + 1) last is in le-leb row last (omega arith)
+reaches_less row kinds.Wait (Some last) is = let within : row + 1 ≤ last = leb-true (row + 1) last is in le-leb row last (omega arith)
+reaches_less row kinds.Script (Some last) is = let within : row + 1 < last = ltb-true (row + 1) last is in lt-ltb row last (omega arith)
 
 -- what goes through the next row, of bars that begin by this one, goes through this one
 still_open : (row : ℕ) (bar : Bar) → bar.first ≤ row → is_open (row + 1) bar ≡ true → is_open row bar ≡ true
 still_open row bar begun is =
-    both (nat_le bar.first row) (reaches row bar.last) (le-leb bar.first row begun)
-    (reaches_less row bar.last (right (nat_le bar.first (row + 1)) (reaches (row + 1) bar.last) is))
+    both (nat_le bar.first row) (reaches row bar.kind bar.last) (le-leb bar.first row begun)
+    (reaches_less row bar.kind bar.last (right (nat_le bar.first (row + 1)) (reaches (row + 1) bar.kind bar.last) is))
 
 -- a row further
 pub opened_below : (row : ℕ) (bars : List Bar) (next : ℕ) (those : List Bar) → AreOpened row bars next those → AreOpened (row + 1) bars next (filter (is_open (row + 1)) those)

@@ -1,4 +1,5 @@
 use Rattle.std.specs.Prelude.{ℕ, ◌+◌, ◌-◌, ◌==◌, nat_le, Bool, not, Option, Some, None, List, [], ◌∷◌, ◌++◌, length, take, drop, replicate, position, codes, if◌then◌else◌}
+use Rattle.zk_show_chart.specs.Answers.{answer_in}
 
 -- the most characters of a line
 abbrev pub width : ℕ
@@ -22,9 +23,16 @@ trimmed (c ∷ more) = with_front c (trimmed more)
 abbrev pub line : List ℕ → List ℕ
 line text = trimmed text ++ 10 ∷ []
 
--- a text for which there is so much room: where that is too little, two dots stand for the rest
+-- a text that is too long for its room: two dots stand for its middle, before what was answered, and where there is no room for
+-- that for its end
+abbrev pub shortened : ℕ → List ℕ → List ℕ → List ℕ
+shortened room text answer =
+    if nat_le (length answer + 2) room then take (room - (length answer + 2)) text ++ codes ".." ++ answer
+    else take room (take (room - 2) text ++ codes "..")
+
+-- a text for which there is so much room
 abbrev pub cut : ℕ → List ℕ → List ℕ
-cut room text = if nat_le (length text) room then text else take room (take (room - 2) text ++ codes "..")
+cut room text = if nat_le (length text) room then text else shortened room text (answer_in text)
 
 -- whether a character isn't a space
 abbrev pub is_ink : ℕ → Bool

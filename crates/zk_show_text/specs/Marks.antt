@@ -1,17 +1,18 @@
-use Rattle.std.specs.Prelude.{ℕ, zero, suc, ◌+◌, ◌==◌, ◌&&◌, nat_le, Bool, true, false, Option, Some, None, List, [], ◌∷◌, if◌then◌else◌}
+use Rattle.std.specs.Prelude.{ℕ, zero, suc, ◌+◌, ◌==◌, ◌&&◌, nat_le, nat_lt, Bool, true, false, Option, Some, None, List, [], ◌∷◌, if◌then◌else◌}
 use Rattle.std.specs.List.{filter, list_any}
 use Rattle.zk_show_chart.specs.declared.chart.Bar.{Bar}
 use Rattle.zk_show_chart.specs.declared.chart.BarKind.{BarKind}
 use Rattle.zk_show_chart.specs.declared.chart.BarKind.TheVariants as kinds
 
--- whether a bar doesn't end above a row
-abbrev pub reaches : ℕ → Option ℕ → Bool
-reaches row None = true
-reaches row (Some last) = nat_le row last
+-- whether a bar doesn't end above a row: a listener's script is over above the step that tells so
+abbrev pub reaches : ℕ → BarKind → Option ℕ → Bool
+reaches row kind None = true
+reaches row kinds.Script (Some last) = nat_lt row last
+reaches row kind (Some last) = nat_le row last
 
 -- whether a row is one of a bar's
 abbrev pub is_open : ℕ → Bar → Bool
-is_open row bar = nat_le bar.first row && reaches row bar.last
+is_open row bar = nat_le bar.first row && reaches row bar.kind bar.last
 
 -- the bars that go through a row
 abbrev pub open_at : ℕ → List Bar → List Bar

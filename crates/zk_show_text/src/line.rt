@@ -1,12 +1,13 @@
-ghost use Rattle.std.specs.Prelude.{◌≡◌, ◌+◌, ◌++◌, ◌<◌, ◌≤◌, length, take, replicate, position, IfSome, OnOk};
-ghost use Rattle.zk_show_text.specs.Line.{fitted, trimmed, line, cut, is_ink, room_in, put_over, laid};
+ghost use Rattle.std.specs.Prelude.{◌≡◌, ◌+◌, ◌++◌, [], ◌<◌, ◌≤◌, length, take, replicate, position, IfSome, OnOk};
+ghost use Rattle.zk_show_text.specs.Line.{fitted, trimmed, line, cut, shortened, is_ink, room_in, put_over, laid};
 
 use zk_base::{NoMemory, put};
+use zk_show_chart::answer_in;
 
 /// The most characters of a line.
 pub const WIDTH: usize = 120;
 
-/// What stands for the rest of what is cut.
+/// What stands for the part of what is cut that has no room.
 const CUT: &[u8] = b"..";
 
 /// Appends a text of just so many characters: cut, or with spaces behind it.
@@ -58,9 +59,27 @@ pub fn cut(text: &mut Vec<u8>, room: usize) -> Result<(), NoMemory>
     if text.len() <= room {
         return Ok(());
     }
-    text.truncate(room.saturating_sub(CUT.len()));
-    put(text, CUT)?;
-    text.truncate(room);
+    let answer = answer_in(text);
+    let mut cut = Vec::new(*text.allocator());
+    put_shortened(&mut cut, text, answer, room)?;
+    *text = cut;
+    Ok(())
+}
+
+/// Puts a text that is too long for its room, of which this is the answer, without its middle or its end.
+fn put_shortened(out: &mut Vec<u8>, text: &[u8], answer: &[u8], room: usize) -> Result<(), NoMemory>
+    requires empty { out.old.items ≡ [] }
+    requires long { room < length text.now }
+    ensures text { OnOk result (out.new.items ≡ shortened room text.now answer.now) }
+{
+    if answer.len() + CUT.len() <= room {
+        put(out, &text[..room - (answer.len() + CUT.len())])?;
+        put(out, CUT)?;
+        return put(out, answer);
+    }
+    put(out, &text[..room.saturating_sub(CUT.len())])?;
+    put(out, CUT)?;
+    out.truncate(room);
     Ok(())
 }
 

@@ -18,6 +18,7 @@ pub fn is_open(row: usize, bar: &Bar) -> bool
     bar.first as usize <= row
         && match bar.last {
             None => true,
+            Some(last) if bar.kind == BarKind::Script => row < last as usize,
             Some(last) => row <= last as usize,
         }
 }

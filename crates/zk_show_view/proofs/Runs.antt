@@ -21,12 +21,14 @@ use Rattle.zk_trace.specs.Feeds.{lines_in}
 use Rattle.zk_trace.specs.Text.{trace_text}
 use Rattle.zk_trace.specs.TraceRead.{IsReadIn, IsWritten, IsRefusedAt}
 use Rattle.zk_trace.proofs.TraceParts.{one-parting, run-parts}
+use Rattle.zk_show_chart.specs.declared.chart.Chart.{Chart}
 use Rattle.zk_show_why.specs.Refusal.{refusal_head}
 use Rattle.zk_forms.specs.declared.form.TheConstants.{LONGEST_TRACE}
 use Rattle.zk_forms.specs.CheckAnswer.{trace_refused}
 use Rattle.zk_forms.proofs.CheckAnswers.{trace-of, trace-refused}
 use Rattle.zk_show_view.specs.declared.view.View.{View}
-use Rattle.zk_show_view.specs.Shown.{IsRunOf, traced, played, IsViewOf, IsView, too_long, no_scenario, no_trace, HasNoRun, IsToldOfFront, IsShown, TellsEnd}
+use Rattle.zk_show_view.specs.declared.view.View.TheVariants as views
+use Rattle.zk_show_view.specs.Shown.{IsRunOf, traced, played, IsViewOf, IsView, too_long, no_scenario, no_trace, HasNoRun, IsToldOfFront, IsShown, TellsEnd, IsItsChart, Draws, IsViewWith}
 use Rattle.zk_show_view.proofs.Outcomes.{never-long}
 
 -- a view of a trace that was read of the two parts
@@ -39,6 +41,15 @@ traced-view view status f s t front trace output read spelled written same short
   run = traced f (trace-of Both f s t front trace read spelled written same short);
   shows = shows;
 }
+
+-- a view of a trace, from one of its chart
+pub view-drawn : (view : View) (f : Format) (s : Content) (t : Trace) (chart : Chart) (end output : List ℕ) → IsItsChart f s t chart →
+    Draws view s t chart end output → IsViewWith view f s t end output
+view-drawn views.Text f s t chart end output is draws = (chart, is, draws)
+view-drawn views.Svg f s t chart end output is draws = (chart, is, draws)
+view-drawn views.Json f s t chart end output is draws = (chart, is, draws)
+view-drawn views.Page f s t chart end output is draws = (chart, is, draws)
+view-drawn views.Why f s t chart end output is draws = draws
 
 -- what is told of an end goes with one of the two statuses of a view
 pub shown-view : (view : View) (status : Status) (s : Content) (t : Trace) (end input output : List ℕ) → TellsEnd status s t end →

@@ -26,6 +26,8 @@ use Rattle.zk_show_chart.specs.declared.chart.Chart.{Chart}
 use Rattle.zk_show_chart.specs.Charts.{IsChart}
 use Rattle.zk_show_text.specs.Chart.{chart_text}
 use Rattle.zk_show_svg.specs.Pictures.{IsPicture}
+use Rattle.zk_show_json.specs.Values.{json_text}
+use Rattle.zk_show_page.specs.Pages.{page_text}
 use Rattle.zk_show_why.specs.Refusal.{refusal_head}
 use Rattle.zk_show_why.specs.Sentences.{TellsWhy}
 use Rattle.zk_forms.specs.declared.form.TheConstants.{LONGEST_TRACE}
@@ -63,13 +65,26 @@ TellsEnd statuses.Success s t end = IsLawful s t × TellsWhy s.decls t [] end
 TellsEnd statuses.Unlawful s t end = (IsLawful s t → ⊥) × IsVerdict s t end
 TellsEnd status s t end = ⊥
 
--- a view of a trace, by what is told of its end: its chart in lines with that below, its chart as a picture, or that alone
+-- a view of a chart, by what is told of the run's end: the chart in lines with that below, as a picture, as a value or a page with
+-- the scenario's text, or that alone
+abbrev pub Draws : View → Content → Trace → Chart → List ℕ → List ℕ → Type 0
+Draws views.Text s t chart end output = output ≡ chart_text s.decls chart ++ end
+Draws views.Svg s t chart end output = IsPicture (length (players s.decls)) chart output
+Draws views.Json s t chart end output = output ≡ json_text s.decls t.logs chart end (text_of s)
+Draws views.Page s t chart end output = output ≡ page_text s.decls t.logs chart end (text_of s)
+Draws views.Why s t chart end output = output ≡ end
+
+-- a view of the chart of a trace
+abbrev pub DrawsItsChart : View → Format → Content → Trace → List ℕ → List ℕ → Type 0
+DrawsItsChart view f s t end output = (chart : Chart) × IsItsChart f s t chart × Draws view s t chart end output
+
+-- a view of a trace, by what is told of its end: of its chart, or that alone
 abbrev pub IsViewWith : View → Format → Content → Trace → List ℕ → List ℕ → Type 0
-IsViewWith views.Text f s t end output =
-    (chart : Chart) × IsItsChart f s t chart × (output ≡ chart_text s.decls chart ++ end)
-IsViewWith views.Svg f s t end output =
-    (chart : Chart) × IsItsChart f s t chart × IsPicture (length (players s.decls)) chart output
 IsViewWith views.Why f s t end output = output ≡ end
+IsViewWith views.Text f s t end output = DrawsItsChart views.Text f s t end output
+IsViewWith views.Svg f s t end output = DrawsItsChart views.Svg f s t end output
+IsViewWith views.Json f s t end output = DrawsItsChart views.Json f s t end output
+IsViewWith views.Page f s t end output = DrawsItsChart views.Page f s t end output
 
 -- a view of a trace that goes with a status
 abbrev pub IsViewOf : View → Status → Format → Content → Trace → List ℕ → Type 0

@@ -3,10 +3,10 @@ ghost use Rattle.zk_forms.specs.CheckAnswer.{trace_refused};
 ghost use Rattle.zk_forms.specs.Refusal.{refusal_text};
 ghost use Rattle.zk_show_view.specs.Answers.{answer_line, answer_text, answer_words, asks_instead, at_answer, at_line};
 
-use crate::verdict::{fail_word, put_unlawful};
 use std::alloc::Global;
 use zk_base::{NoMemory, put, put_decimal};
 use zk_check::Fail;
+use zk_forms::{fail_word, put_unlawful};
 use zk_scenario::Why;
 use zk_words::{Pieces, is_same, number_in};
 

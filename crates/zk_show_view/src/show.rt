@@ -5,18 +5,19 @@ ghost use Rattle.zk_base.specs.Fronts.{StaysInFront};
 ghost use Rattle.zk_scenario.specs.Grammar.{scenario_of};
 ghost use Rattle.zk_scenario.specs.Spelling.{text_of};
 ghost use Rattle.zk_trace.specs.declared.format.Format.{Format};
+ghost use Rattle.zk_trace.specs.Feeds.{lines_in};
 ghost use Rattle.zk_trace.specs.Form.{IsInForm};
 ghost use Rattle.zk_trace.specs.Parting.{AreParts};
 ghost use Rattle.zk_trace.specs.Text.{trace_text};
+ghost use Rattle.zk_show_chart.specs.Bars.{AreInOrder, start};
 ghost use Rattle.zk_show_why.specs.Refusal.{refusal_head};
 ghost use Rattle.zk_forms.specs.declared.form.TheConstants.{LONGEST_TRACE};
 ghost use Rattle.zk_forms.specs.Input.{GaveAtMost};
 ghost use Rattle.zk_forms.specs.Output.{AppendsFront};
 ghost use Rattle.zk_forms.specs.Top.{Prints, words_refused};
 ghost use Rattle.zk_show_view.specs.declared.view.View.{View};
-ghost use Rattle.zk_show_view.specs.declared.view.View.TheVariants as views;
 ghost use Rattle.zk_show_view.specs.Views.{view_of};
-ghost use Rattle.zk_show_view.specs.Shown.{IsShown, IsToldOfFront, IsViewWith, MayCome, PrintsFrontTo, ShowsTo, TellsEnd, WentTo, is_refused, trace_line};
+ghost use Rattle.zk_show_view.specs.Shown.{IsShown, IsToldOfFront, Draws, IsViewWith, MayCome, PrintsFrontTo, ShowsTo, TellsEnd, WentTo, is_refused};
 
 use crate::answers::{answer_of, asking};
 use crate::verdict::{end_of_run, why_of_run};
@@ -26,7 +27,9 @@ use zk_base::{NoMemory, Sink, Source, Status, put};
 use zk_forms::{LONGEST_TRACE, NoInput, read_input, trace_refusal, write_text};
 use zk_replay::replay;
 use zk_scenario::{Scenario, ScenarioRefused, Why, read_scenario};
-use zk_show_chart::chart_of;
+use zk_show_chart::{Chart, chart_of};
+use zk_show_json::put_json;
+use zk_show_page::put_page;
 use zk_show_svg::put_svg;
 use zk_show_text::put_text;
 use zk_show_why::put_refusal;
@@ -238,12 +241,11 @@ fn played(
     requires short { length text.now ≤ LONGEST_TRACE }
     ensures { IfOk result (λ made. IsShown view made.1 text.now made.0.items) }
 {
-    let first_line = line_count(text) as u32 + 1;
     let trace = replay(alloc, scenario)?;
     let end = why_of_run(alloc, scenario, &trace)?;
     let mut printed = Vec::new(alloc);
     put_trace(&mut printed, scenario, &trace)?;
-    let output = view_of_run(alloc, view, scenario, &trace, &printed, first_line, end)?;
+    let output = view_of_run(alloc, view, scenario, text, &trace, &printed, end)?;
     Ok((output, Status::Success))
 }
 
@@ -262,11 +264,10 @@ fn traced(
     requires behind { 0 < length text.now }
     ensures { IfOk result (λ made. IsShown view made.1 (front.now ++ text.now) made.0.items) }
 {
-    let first_line = line_count(front) as u32 + 1;
-    match read_trace(alloc, scenario, Formats::Both, text, first_line) {
+    match read_trace(alloc, scenario, Formats::Both, text, behind(front)) {
         Ok(trace) => {
             let (end, status) = end_of_run(alloc, scenario, &trace)?;
-            let output = view_of_run(alloc, view, scenario, &trace, text, first_line, end)?;
+            let output = view_of_run(alloc, view, scenario, front, &trace, text, end)?;
             Ok((output, status))
         }
         Err(TraceRefused::At(line)) => Ok((trace_refusal(alloc, line)?, Status::Refused)),
@@ -279,60 +280,56 @@ fn view_of_run(
     alloc: Global,
     view: View,
     scenario: &Scenario,
+    source: &[u8],
     trace: &Trace,
     text: &[u8],
-    first_line: u32,
     end: Vec<u8>,
 ) -> Result<Vec<u8>, NoMemory>
     requires form { IsInForm scenario.now trace.now }
-    requires first { first_line ≡ trace_line scenario.now }
+    requires source { source.now ≡ text_of scenario.now }
+    requires short { length source.now ≤ LONGEST_TRACE }
     ensures { (f : Format) → text.now ≡ trace_text f scenario.now trace.now →
         IfOk result (λ output. IsViewWith view f scenario.now trace.now end.items output.items) }
 {
-    match view {
-        View::Text => text_of_run(alloc, scenario, trace, text, first_line, &end),
-        View::Svg => svg_of_run(alloc, scenario, trace, text, first_line, &end),
-        View::Why => Ok(end),
+    if view == View::Why {
+        return Ok(end);
     }
+    let chart = chart_of(alloc, scenario, trace, text, behind(source))?;
+    drawn(alloc, view, scenario, source, trace, &chart, &end)
 }
 
-/// The chart of a trace in lines, and what is told of its end.
-fn text_of_run(
-    alloc: Global,
-    scenario: &Scenario,
-    trace: &Trace,
-    text: &[u8],
-    first_line: u32,
-    end: &[u8],
-) -> Result<Vec<u8>, NoMemory>
-    requires form { IsInForm scenario.now trace.now }
-    requires first { first_line ≡ trace_line scenario.now }
-    ensures { (f : Format) → text.now ≡ trace_text f scenario.now trace.now →
-        IfOk result (λ output. IsViewWith views.Text f scenario.now trace.now end.now output.items) }
+/// The number of the line behind a scenario's text.
+fn behind(source: &[u8]) -> u32
+    requires { length source.now ≤ LONGEST_TRACE }
+    ensures { result ≡ length (lines_in source.now) + 1 }
 {
-    let chart = chart_of(alloc, scenario, trace, text, first_line)?;
-    let mut out = Vec::new(alloc);
-    put_text(&mut out, scenario, &chart)?;
-    put(&mut out, end)?;
-    Ok(out)
+    line_count(source) as u32 + 1
 }
 
-/// The picture of a trace, and what is told of its end.
-fn svg_of_run(
+/// A view of a chart, by what is told of the run's end.
+fn drawn(
     alloc: Global,
+    view: View,
     scenario: &Scenario,
+    source: &[u8],
     trace: &Trace,
-    text: &[u8],
-    first_line: u32,
+    chart: &Chart<'_>,
     end: &[u8],
 ) -> Result<Vec<u8>, NoMemory>
-    requires form { IsInForm scenario.now trace.now }
-    requires first { first_line ≡ trace_line scenario.now }
-    ensures { (f : Format) → text.now ≡ trace_text f scenario.now trace.now →
-        IfOk result (λ output. IsViewWith views.Svg f scenario.now trace.now end.now output.items) }
+    requires order { AreInOrder (map start chart.now.bars.items) }
+    requires source { source.now ≡ text_of scenario.now }
+    ensures { IfOk result (λ output. Draws view scenario.now trace.now chart.now end.now output.items) }
 {
-    let chart = chart_of(alloc, scenario, trace, text, first_line)?;
     let mut out = Vec::new(alloc);
-    put_svg(&mut out, scenario, &chart, end)?;
+    match view {
+        View::Text => {
+            put_text(&mut out, scenario, chart)?;
+            put(&mut out, end)?;
+        }
+        View::Svg => put_svg(&mut out, scenario, chart, end)?,
+        View::Json => put_json(&mut out, scenario, trace.logs.items(), chart, end, source)?,
+        View::Page => put_page(&mut out, scenario, trace.logs.items(), chart, end, source)?,
+        View::Why => put(&mut out, end)?,
+    }
     Ok(out)
 }

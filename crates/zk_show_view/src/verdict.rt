@@ -2,31 +2,18 @@ ghost use Rattle.std.specs.Prelude.{◌≡◌, ◌++◌, [], IfOk, OnOk};
 ghost use Rattle.zk_trace.specs.Form.{IsInForm};
 ghost use Rattle.zk_trace.specs.Lawful.{IsLawful};
 ghost use Rattle.zk_show_why.specs.Sentences.{TellsWhy};
-ghost use Rattle.zk_forms.specs.CheckAnswer.{fail_word, unlawful_text};
 ghost use Rattle.zk_show_view.specs.Shown.{TellsEnd};
 ghost use Rattle.zk_show_view.specs.Verdict.{fail_sentence, verdict_text};
 
 use std::alloc::Global;
-use zk_base::{NoMemory, Status, put, put_decimal};
+use zk_base::{NoMemory, Status, put};
 use zk_check::{Checked, Fail, check};
+use zk_forms::put_unlawful;
 use zk_scenario::Scenario;
 use zk_show_why::put_why;
 use zk_trace::Trace;
 
-/// The word of a reason, as `check` prints it.
-pub fn fail_word(fail: Fail) -> &'static [u8]
-    ensures { result.now ≡ fail_word fail }
-{
-    match fail {
-        Fail::Place => b"place",
-        Fail::History => b"history",
-        Fail::Log => b"log",
-        Fail::Look => b"look",
-        Fail::Ending => b"ending",
-    }
-}
-
-/// The same in a sentence.
+/// Why a trace isn't lawful, in a sentence.
 fn fail_sentence(fail: Fail) -> &'static [u8]
     ensures { result.now ≡ fail_sentence fail }
 {
@@ -41,17 +28,6 @@ fn fail_sentence(fail: Fail) -> &'static [u8]
             b"That isn't what there was to see then, or is older than what its player has seen.\n",
         Fail::Ending => b"The run doesn't end so.\n",
     }
-}
-
-/// Appends the line of a trace that isn't lawful.
-pub fn put_unlawful(out: &mut Vec<u8>, line: u32, fail: Fail) -> Result<(), NoMemory>
-    ensures { OnOk result (out.new.items ≡ out.old.items ++ unlawful_text line fail) }
-{
-    put(out, b"unlawful ")?;
-    put_decimal(out, u64::from(line))?;
-    put(out, b" ")?;
-    put(out, fail_word(fail))?;
-    put(out, b"\n")
 }
 
 /// What is told of a trace that isn't lawful.

@@ -8,6 +8,10 @@ pub enum View {
     Text,
     /// `svg`: a picture that a browser shows.
     Svg,
+    /// `json`: the rows, bars, arrows and answers as a value in JSON, for other tools.
+    Json,
+    /// `page`: one file that any browser opens, to go through the run step by step.
+    Page,
     /// `why`: how the run ended, in sentences.
     Why,
 }
@@ -19,6 +23,8 @@ pub fn view_of(words: &[String]) -> Option<View>
     match words {
         [word] if word.as_bytes() == b"text".as_slice() => Some(View::Text),
         [word] if word.as_bytes() == b"svg".as_slice() => Some(View::Svg),
+        [word] if word.as_bytes() == b"json".as_slice() => Some(View::Json),
+        [word] if word.as_bytes() == b"page".as_slice() => Some(View::Page),
         [word] if word.as_bytes() == b"why".as_slice() => Some(View::Why),
         _ => None,
     }

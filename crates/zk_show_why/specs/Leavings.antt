@@ -1,26 +1,15 @@
 -- What is said of what a run leaves behind.
 use Rattle.std.specs.Prelude.{◌≡◌, ℕ, ◌==◌, List, ◌++◌, codes, decimal, if◌then◌else◌}
 use Rattle.std.specs.List.{AllZip, concat}
-use Rattle.zk_base.specs.declared.errors.Errno.{Errno}
-use Rattle.zk_base.specs.declared.errors.Errno.TheVariants.{Busy, Again, Inval, NoDev, NoMsg, Already, Fault}
 use Rattle.zk_line.specs.declared.types.Decl.{Decl}
 use Rattle.zk_trace.specs.declared.trace.Trace.{Trace}
+use Rattle.zk_trace.specs.Words.{errno_word}
 use Rattle.zk_show_why.specs.declared.left.Left.{Left}
 use Rattle.zk_show_why.specs.declared.left.What.{What}
 use Rattle.zk_show_why.specs.declared.left.What.TheVariants.{Refused, Expired, Hurried, Dropped, Delayed, Holds}
 use Rattle.zk_show_why.specs.Left.{left_of}
 use Rattle.zk_show_why.specs.Oops.{step_words}
 use Rattle.zk_show_why.specs.Players.{name_of_object, player_name}
-
--- an error, as traces spell it
-abbrev pub errno_said : Errno → List ℕ
-errno_said Busy = codes "busy"
-errno_said Again = codes "again"
-errno_said Inval = codes "inval"
-errno_said NoDev = codes "nodev"
-errno_said NoMsg = codes "nomsg"
-errno_said Already = codes "already"
-errno_said Fault = codes "fault"
 
 -- what the player did, in front of the object's name
 abbrev pub left_verb : What → List ℕ
@@ -47,8 +36,8 @@ dropped_words number = codes ", which dropped its admission a" ++ decimal number
 
 -- what came of that
 abbrev pub left_end : What → List ℕ
-left_end (Refused errno) = codes ", in vain: it was answered `" ++ errno_said errno ++ codes "`"
-left_end (Expired errno) = codes ", in vain: its submission was answered `" ++ errno_said errno ++ codes "`"
+left_end (Refused errno) = codes ", in vain: it was answered `" ++ errno_word errno ++ codes "`"
+left_end (Expired errno) = codes ", in vain: its submission was answered `" ++ errno_word errno ++ codes "`"
 left_end Hurried = codes ", in vain: its submission was refused"
 left_end (Dropped number) = dropped_words number
 left_end (Delayed moment) = until_words moment

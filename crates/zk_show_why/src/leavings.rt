@@ -1,6 +1,7 @@
 ghost use Rattle.std.specs.Prelude.{◌≡◌, ◌++◌, codes, IfOk, OnOk};
 ghost use Rattle.zk_base.specs.Fronts.{StaysInFront};
-ghost use Rattle.zk_show_why.specs.Leavings.{IsLeftText, TellsLeft, TellsLefts, count_words, dropped_words, errno_said, left_back, left_end, left_front, left_verb, many_words, until_words};
+ghost use Rattle.zk_trace.specs.Words.{errno_word};
+ghost use Rattle.zk_show_why.specs.Leavings.{IsLeftText, TellsLeft, TellsLefts, count_words, dropped_words, left_back, left_end, left_front, left_verb, many_words, until_words};
 
 use crate::failed::put_step;
 use crate::left::{Left, What, left_of};
@@ -13,20 +14,7 @@ use crate::words::{END, Told};
 use std::alloc::Global;
 use zk_base::{Errno, NoMemory, put, put_decimal};
 use zk_scenario::Scenario;
-
-fn errno_said(errno: Errno) -> &'static [u8]
-    ensures { result.now ≡ errno_said errno }
-{
-    match errno {
-        Errno::Busy => b"busy",
-        Errno::Again => b"again",
-        Errno::Inval => b"inval",
-        Errno::NoDev => b"nodev",
-        Errno::NoMsg => b"nomsg",
-        Errno::Already => b"already",
-        Errno::Fault => b"fault",
-    }
-}
+use zk_trace::errno_word;
 
 fn left_verb(what: What) -> &'static [u8]
     ensures { result.now ≡ left_verb what }
@@ -74,10 +62,10 @@ fn put_dropped(out: &mut Vec<u8>, number: u64) -> Result<(), NoMemory>
 
 // An error behind these words.
 fn put_errno(out: &mut Vec<u8>, front: &[u8], errno: Errno) -> Result<(), NoMemory>
-    ensures { OnOk result (out.new.items ≡ out.old.items ++ front.now ++ errno_said errno ++ codes "`") }
+    ensures { OnOk result (out.new.items ≡ out.old.items ++ front.now ++ errno_word errno ++ codes "`") }
 {
     put(out, front)?;
-    put(out, errno_said(errno))?;
+    put(out, errno_word(errno))?;
     put(out, b"`")
 }
 

@@ -14,6 +14,7 @@ mod limits;
 mod lines;
 mod misnamed;
 mod misplaced;
+mod mistakes;
 mod oops;
 mod open;
 mod people;

@@ -7,6 +7,7 @@ use crate::before::Before;
 use crate::limits::limit_finding;
 use crate::misnamed::name_finding;
 use crate::misplaced::order_finding;
+use crate::mistakes::put_further;
 use crate::placed::PlacedParts;
 use crate::plain::{between, put_marked};
 use crate::ranges::number_finding;
@@ -34,14 +35,30 @@ struct Refused<'a> {
 }
 
 /// Appends why a scenario is refused: the line's number and the reason, as the reader gives them; the line, with a mark below
-/// the word that is meant; the cause in a sentence; and what would be accepted.
+/// the word that is meant; the cause in a sentence; and what would be accepted. Up to nineteen further mistakes follow, each told
+/// as the first one.
 pub fn put_refusal(out: &mut Vec<u8>, text: &[u8], line: u32, why: Why) -> Result<(), NoMemory>
     ensures told { OnOk result (StaysInFront (out.old.items ++ refusal_head line why) out.new.items) }
     ensures kept { StaysInFront out.old.items out.new.items }
 {
+    put_mistake(out, line, text, line, why)?;
+    put_further(out, text, line, why)
+}
+
+/// Appends why a line of this text is refused, which is the line of the other number in the whole input.
+pub fn put_mistake(
+    out: &mut Vec<u8>,
+    number: u32,
+    text: &[u8],
+    line: u32,
+    why: Why,
+) -> Result<(), NoMemory>
+    ensures told { OnOk result (StaysInFront (out.old.items ++ refusal_head number why) out.new.items) }
+    ensures kept { StaysInFront out.old.items out.new.items }
+{
     let told = refusal_told(*out.allocator(), text, line, why)?;
     put(out, b"line ")?;
-    put_decimal(out, u64::from(line))?;
+    put_decimal(out, u64::from(number))?;
     put(out, b": ")?;
     put(out, why.word().as_bytes())?;
     put(out, b"\n")?;

@@ -4,7 +4,7 @@ use crate::kept::put_kept;
 use crate::migrating::put_unmigrated;
 use crate::play::{Played, play, play_by};
 use crate::reading::{is_read_again, put_readings};
-use crate::shown::{put_same_picture, put_shown};
+use crate::shown::{put_same_picture, put_shown, put_shown_piece};
 use crate::spelled::{put_spelled, put_times};
 use std::alloc::Global;
 use std::rt::Files;
@@ -30,6 +30,7 @@ use zk_trace::Format;
 ///     % check CHANGE plays the text, and checks the trace changed in this way
 ///     &              reads the trace that stands in the text: each entry, look and answer of it
 ///     ^ WORD         shows the text, a run or a scenario alone, by this word: the status, and what is printed
+///     > WORD: PIECE  shows the text by this word: the status, and whether what is printed holds this piece
 ///     < PICTURE      shows the text by `svg`: the status, and whether it draws what this file holds
 ///
 /// Each trace that is played is read and printed again, checked, and migrated without its counts. Where it isn't the same,
@@ -71,6 +72,7 @@ fn put_row<R: Threads + Wait + Files + AllocGlobal + Sync>(
         [b'%', ..] => put_change(alloc, out, text, line, Format::Two),
         [b'&'] => put_kept(alloc, out, text),
         [b'^', ..] => put_shown(alloc, out, text, line),
+        [b'>', ..] => put_shown_piece(alloc, out, text, line),
         [b'<', ..] => put_same_picture(rt, out, text, line),
         _ => put_line(text, line.as_bytes()),
     }
@@ -189,7 +191,7 @@ fn put_holding<R: Threads + Wait + Sync>(
 }
 
 /// Whether a piece stands somewhere in a text.
-fn holds(text: &[u8], piece: &[u8]) -> bool {
+pub fn holds(text: &[u8], piece: &[u8]) -> bool {
     match piece {
         [] => true,
         _ => text.windows(piece.len()).any(|window| window == piece),

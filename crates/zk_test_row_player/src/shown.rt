@@ -1,4 +1,5 @@
 use crate::play::{ROOM, source_of};
+use crate::rows::holds;
 use std::alloc::Global;
 use std::fs;
 use std::rt::Files;
@@ -29,6 +30,26 @@ pub fn put_shown(
         put(out, seen.errors.held())?;
     }
     Ok(())
+}
+
+/// The status, and whether what is shown of a text by the word behind the sign holds the piece behind that.
+pub fn put_shown_piece(
+    alloc: Global,
+    out: &mut Vec<u8>,
+    text: &[u8],
+    line: &str,
+) -> Result<(), NoMemory> {
+    let asked = word_of(line);
+    let (word, piece) = asked.split_once(": ").unwrap_or((asked, ""));
+    let seen = show(alloc, text, word)?;
+    put_decimal(out, u64::from(seen.status.code()))?;
+    if holds(seen.sink.held(), piece.as_bytes()) {
+        put(out, b", holds ")?;
+    } else {
+        put(out, b", doesn't hold ")?;
+    }
+    put(out, piece.as_bytes())?;
+    put(out, b"\n")
 }
 
 /// The status, and whether the picture of a text is what the file behind the sign holds.

@@ -4,7 +4,7 @@ use std::alloc::Global;
 use std::test::Fail;
 use zk_base::NoMemory;
 use zk_scenario::read_scenario;
-use zk_show_chart::{Arrow, ArrowKind, Bar, BarKind, Chart, Row};
+use zk_show_chart::{Arrow, ArrowKind, Bar, BarKind, Chart, Row, Tick};
 use zk_show_svg::put_svg;
 use zk_trace::Ending;
 
@@ -43,12 +43,14 @@ fn chart_of(alloc: Global) -> Result<Chart<'static>, NoMemory> {
         from: 1,
         to: 4,
     };
+    let tick = Tick { row: 2, time: 5 };
     Ok(Chart {
         ending: Ending::Ended,
         agrees: false,
         rows,
         bars: Vec::from_slice(alloc, &[wait])?,
         arrows: Vec::from_slice(alloc, &[give, none])?,
+        ticks: Vec::from_slice(alloc, &[tick])?,
     })
 }
 
@@ -68,15 +70,15 @@ fn draws_what_there_is(rt: HostRuntime) -> Result<(), Fail> {
         (few, b"they stand service by service."),
         (
             few,
-            b">main</text><text class=\"m\" x=\"94\" y=\"187\">thread</text>",
+            b">main</text><text class=\"m\" x=\"94\" y=\"207\">thread</text>",
         ),
         (
             few,
-            b"<g class=\"r\"><title>line 13, s0: main.1 takeend 0 = got</title><rect class=\"b\" x=\"94\" y=\"244\"",
+            b"<g class=\"r\"><title>line 13, s0: main.1 takeend 0 = got</title><rect class=\"b\" x=\"94\" y=\"264\"",
         ),
         (
             few,
-            b"<tspan class=\"s\">s0</tspan> takeend 0 = got</text><text class=\"n\" x=\"60\" y=\"257\">13</text></g>",
+            b"<tspan class=\"s\">s0</tspan> takeend 0 = got</text><text class=\"n\" x=\"60\" y=\"277\">13</text></g>",
         ),
         (
             few,
@@ -85,14 +87,19 @@ fn draws_what_there_is(rt: HostRuntime) -> Result<(), Fail> {
         (few, b"</tspan> busy &lt;&amp;&quot;&gt; = - @0</text>"),
         (
             few,
-            b"<rect class=\"wait\" x=\"98\" y=\"218\" width=\"12\" height=\"26\" rx=\"3\"/>",
+            b"<rect class=\"wait\" x=\"98\" y=\"238\" width=\"12\" height=\"26\" rx=\"3\"/>",
         ),
+        (
+            few,
+            b"<path class=\"t\" d=\"M16 283H798\"/><text class=\"n\" x=\"794\" y=\"279\">t=5</text>",
+        ),
+        (few, b">give: to the take it served</text>"),
         (few, b">because</text>\n</svg>\n"),
-        (many, b"<path class=\"a a1\" d=\"M716 318H706V340H590\"/>"),
+        (many, b"<path class=\"a a1\" d=\"M716 338H706V360H590\"/>"),
         (many, b"rotate(-90)\">isr</text>"),
         (
             many,
-            b"<rect class=\"d\" x=\"572\" y=\"337\" width=\"18\" height=\"8\" rx=\"4\"/><text x=\"68\" y=\"345\">main.1</text>",
+            b"<rect class=\"d\" x=\"572\" y=\"357\" width=\"18\" height=\"8\" rx=\"4\"/><text x=\"68\" y=\"365\">main.1</text>",
         ),
     ] {
         let scenario = read_scenario(rt.alloc(), text)?;

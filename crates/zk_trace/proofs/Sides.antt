@@ -1,6 +1,6 @@
 -- A row is cut at its first sign, and what is made of both sides is read exactly.
 use Rattle.std.proofs.Common.{◌≡◌, ℕ, ◌+◌, ◌-◌, ◌<◌, ◌≤◌, zero, suc, Bool, true, false, not, cond, eqb, ltb, Option, Some, None, List, [], ◌∷◌, ◌++◌, length, take, drop, refl, sym, ap, subst, inl, inr, ◌∙◌, arith}
-use Rattle.std.specs.Prelude.{option_map, option_and_then, bytes_eq, codes, slice_index}
+use Rattle.std.specs.Prelude.{option_map, option_and_then, bytes_eq, codes}
 use Rattle.std.specs.List.{position, position_or_len}
 use Rattle.std.proofs.lemmas.Bool.{cases_Bool, cond-true, cond-false, eqb-true, ltb-true, ltb-false}
 use Rattle.std.proofs.lemmas.List.{append_assoc, length-append, take-append-drop}
@@ -8,10 +8,10 @@ use Rattle.std.proofs.lemmas.List.Splits.{join_with_byte-slice_split}
 use Rattle.std.proofs.lemmas.Option.{same_Some, cond_some, none-some, option_and_then_some}
 use Rattle.std.proofs.lemmas.Slice.Eq.{bytes_eq-Decides}
 use Rattle.std.proofs.Math.Seq.{take-append_seam, drop-append_seam}
-use Rattle.memchr.specs.Find.{IsFirstByte, is_byte}
 use Rattle.zk_words.specs.Bytes.{space, line_feed}
 use Rattle.zk_words.specs.Pieces.{words_of}
 use Rattle.zk_words.specs.Text.{line_text}
+use Rattle.zk_words.proofs.FirstPlace.{here, later}
 use Rattle.zk_line.proofs.Options.{one_part}
 use Rattle.zk_trace.specs.Exact.{equals, Lacks, IsUnfed, IsExactRow, AreExact}
 use Rattle.zk_trace.specs.Sides.{sign, sides_row, longer, halves, before_space, behind_space, pair, kept, trimmed, sides_of, said_beside, said_by_sides}
@@ -44,12 +44,6 @@ halves-spelled byte (b ∷ bs) front rest said = elim (cases_Bool (eqb b byte)) 
 
 -- By places.
 
-here : (byte b : ℕ) (bs : List ℕ) → eqb b byte ≡ true → position_or_len (λ x. eqb x byte) (b ∷ bs) ≡ 0
-here byte b bs same = ap (λ (t : Bool). cond (not t) (1 + position_or_len (λ x. eqb x byte) bs) 0) same
-
-later : (byte b : ℕ) (bs : List ℕ) → eqb b byte ≡ false → position_or_len (λ x. eqb x byte) (b ∷ bs) ≡ 1 + position_or_len (λ x. eqb x byte) bs
-later byte b bs other = ap (λ (t : Bool). cond (not t) (1 + position_or_len (λ x. eqb x byte) bs) 0) other
-
 at_place : (byte : ℕ) (bs : List ℕ) (k : ℕ) → position_or_len (λ x. eqb x byte) bs ≡ k → k < length bs → halves byte bs ≡ Some (take k bs, drop (suc k) bs)
 at_place byte [] k is within = absurd (omega arith)
 at_place byte (b ∷ bs) zero is within = elim (cases_Bool (eqb b byte)) [
@@ -69,40 +63,6 @@ nowhere byte (b ∷ bs) is = elim (cases_Bool (eqb b byte)) [
   | inr other ↦ cond-false (eqb b byte) (Some ([], bs)) (option_map (longer b) (halves byte bs)) other
       ∙ ap (option_map (longer b)) (nowhere byte bs (omega (arith, later byte b bs other)))
 ]
-
--- the first place of a byte, and where it is nowhere, as a search names them
-place-at : (byte : ℕ) (bs : List ℕ) (k : ℕ) → ((i : ℕ) → i < k → eqb (slice_index bs i) byte ≡ true → ⊥) → k < length bs → eqb (slice_index bs k) byte ≡ true →
-    position_or_len (λ x. eqb x byte) bs ≡ k
-place-at byte [] k none within is = absurd (omega arith)
-place-at byte (b ∷ bs) zero none within is = here byte b bs is
-place-at byte (b ∷ bs) (suc k) none within is = elim (cases_Bool (eqb b byte)) [
-  | inl same ↦ absurd (none 0 (omega arith) same)
-  | inr other ↦ omega (arith, later byte b bs other, place-at byte bs k (λ i below. none (suc i) (omega (arith, below))) (omega (arith, within)) is)
-]
-
-place-none : (byte : ℕ) (bs : List ℕ) → ((i : ℕ) → i < length bs → eqb (slice_index bs i) byte ≡ true → ⊥) → position_or_len (λ x. eqb x byte) bs ≡ length bs
-place-none byte [] none = refl
-place-none byte (b ∷ bs) none = elim (cases_Bool (eqb b byte)) [
-  | inl same ↦ absurd (none 0 (omega arith) same)
-  | inr other ↦ omega (arith, later byte b bs other, place-none byte bs (λ i below. none (suc i) (omega (arith, below))))
-]
-
-pub first-place : (byte : ℕ) (bs : List ℕ) (r : Option ℕ) → IsFirstByte (is_byte byte) bs r → r ≡ position (λ x. eqb x byte) bs
-first-place byte bs None first = elim (cases_Bool (ltb (position_or_len (λ x. eqb x byte) bs) (length bs))) [
-  | inl within ↦
-      let below = ltb-true (position_or_len (λ x. eqb x byte) bs) (length bs) within in
-      absurd (omega (arith, below, place-none byte bs (λ i there. first i (omega arith) there)))
-  | inr past ↦ sym (cond-false (ltb (position_or_len (λ x. eqb x byte) bs) (length bs)) (Some (position_or_len (λ x. eqb x byte) bs)) None past)
-]
-first-place byte bs (Some k) first =
-    let at = place-at byte bs k (λ i below. first.0.before i (omega arith) below) first.0.high first.1 in
-    elim (cases_Bool (ltb (position_or_len (λ x. eqb x byte) bs) (length bs))) [
-      | inl within ↦ ap Some (sym at) ∙ sym (cond-true (ltb (position_or_len (λ x. eqb x byte) bs) (length bs)) (Some (position_or_len (λ x. eqb x byte) bs)) None within)
-      | inr past ↦
-          let beyond = ltb-false (position_or_len (λ x. eqb x byte) bs) (length bs) past in
-          let high = first.0.high in
-          absurd (omega (arith, beyond, high, at))
-    ]
 
 -- where the byte is nowhere there is no cut
 pub halves-nowhere : (byte : ℕ) (bs : List ℕ) → position (λ x. eqb x byte) bs ≡ None → halves byte bs ≡ None

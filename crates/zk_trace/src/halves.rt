@@ -1,7 +1,7 @@
-ghost use Rattle.std.specs.Prelude.{◌≡◌, ◌==◌, position, MatchOption};
+ghost use Rattle.std.specs.Prelude.{◌≡◌, MatchOption};
 ghost use Rattle.zk_trace.specs.Sides.{halves, sides_of};
 
-use memchr::memchr;
+use zk_words::place_of;
 
 /// What stands before the first of a byte, and behind it.
 pub fn halves(byte: u8, text: &[u8]) -> Option<(&[u8], &[u8])>
@@ -12,12 +12,6 @@ pub fn halves(byte: u8, text: &[u8]) -> Option<(&[u8], &[u8])>
         Some(at) => Some((&text[..at], &text[at + 1..])),
         None => None,
     }
-}
-
-fn place_of(byte: u8, text: &[u8]) -> Option<usize>
-    ensures { result ≡ position (λ b. b == byte) text.now }
-{
-    memchr(byte, text)
 }
 
 const SPACE: &[u8] = b" ";

@@ -406,6 +406,14 @@ pub fn put_part(
     put_word(out, scenario, part)
 }
 
+/// Appends an answer, as it stands in a trace.
+pub fn put_answer(out: &mut Paper, scenario: &Scenario, answer: &Answer) -> Result<(), NoMemory>
+    ensures text { OnOk result (out.new.put ≡ out.old.put ++ part_word scenario.now.decls (answer_part answer.now)) }
+    ensures front { out.new.front ≡ out.old.front }
+{
+    put_word(out, scenario, &answer_part(answer))
+}
+
 fn put_word(out: &mut Paper, scenario: &Scenario, part: &Part<'_>) -> Result<(), NoMemory>
     ensures text { OnOk result (out.new.put ≡ out.old.put ++ part_word scenario.now.decls part.now) }
     ensures front { out.new.front ≡ out.old.front }

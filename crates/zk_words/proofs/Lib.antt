@@ -1,5 +1,6 @@
 pub mod Begins
 pub mod FirstPiece
+pub mod FirstPlace
 pub mod Formed
 pub mod Heads
 pub mod HexText

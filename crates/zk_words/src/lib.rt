@@ -27,7 +27,7 @@ pub use line::{Line, line_of};
 pub use matching::is_same;
 pub use numbers::{exact_number_of, number_in, number_of, priority_of};
 pub use parts::{Part, Parts};
-pub use pieces::{Lines, Pieces, Words};
+pub use pieces::{Lines, Pieces, Words, place_of};
 pub use slot::{Choice, Rest, Slot};
 pub use spelled::{choice_text, is_spelled_in, same_choice};
 pub use table::{Row, call_row, row_of};

@@ -1,6 +1,7 @@
 ghost use Rattle.std.specs.Prelude.{◌≡◌, ◌==◌, ◌∷◌, [], position, MatchOption};
 ghost use Rattle.zk_words.specs.Pieces.{pieces_between};
 
+use memchr::memchr;
 use std::marker::Model;
 
 /// What stands between the separators of a text, from left to right. Two separators side by side have an
@@ -75,8 +76,9 @@ fn split_at(separator: u8, text: &[u8]) -> (&[u8], Option<&[u8]>)
     }
 }
 
-fn place_of(separator: u8, text: &[u8]) -> Option<usize>
-    ensures { result ≡ position (λ b. b == separator) text.now }
+/// The first place of a byte in a text.
+pub fn place_of(byte: u8, text: &[u8]) -> Option<usize>
+    ensures { result ≡ position (λ b. b == byte) text.now }
 {
-    text.iter().position(|b| *b == separator)
+    memchr(byte, text)
 }

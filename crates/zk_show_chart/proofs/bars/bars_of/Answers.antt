@@ -1,4 +1,4 @@
-use Rattle.std.proofs.Common.{◌≡◌, ℕ, ◌<◌, ◌&&◌, nat_lt, Bool, List, Some, option_map, length, get_or, slice_get, vec_len, ◌∙◌, ap, arith}
+use Rattle.std.proofs.Common.{◌≡◌, ◌<◌, ◌&&◌, nat_lt, Some, option_map, length, get_or, slice_get, vec_len, ◌∙◌, ap, arith}
 use Rattle.std.proofs.lemmas.Option.{slice_get-get_or, slice_get-map}
 use Rattle.zk_scenario.specs.Players.{players}
 use Rattle.zk_trace.specs.declared.stood.Stood.{Stood}

@@ -1,4 +1,4 @@
-use Rattle.std.proofs.Common.{◌≡◌, List, length, map, refl, sym, ap, subst, ◌∙◌}
+use Rattle.std.proofs.Common.{◌≡◌, ◌^◌, ◌<◌, List, length, map, refl, sym, ap, subst, ◌∙◌}
 use Rattle.zk_trace.specs.declared.stood.Stood.{Stood}
 use Rattle.zk_trace.specs.Stood.{stood}
 use Rattle.zk_trace.proofs.FewObjects.{form-few}
@@ -6,6 +6,7 @@ use Rattle.zk_show_order.specs.Order.{lines_at}
 use Rattle.zk_show_chart.specs.Charts.{AreBars, AreArrows}
 use Rattle.zk_show_chart.specs.Lines.{line_said, lines_said}
 use Rattle.zk_show_chart.specs.Rows.{AreDrawn, said_of}
+use Rattle.zk_show_chart.specs.Ticks.{ticks_from}
 use Rattle.zk_show_chart.proofs.RowOrder.{drawn-within, within-as}
 use Rattle.zk_show_chart.proofs.making.chart_of.Goals as goal
 
@@ -59,5 +60,6 @@ returns-clause-chart c =
           ∙ ap (map (said_of (stood t) (lines_said text first (stood t)))) c.deref-7.ensures.value;
       bars = bars;
       arrows = arrows;
+      ticks = subst (λ (l : List Stood). length l < 2 ^ 32 → c.in_ok-ticks.ticks.items ≡ ticks_from t 0 l) (c.deref-10.ensures.value ∙ drawn) c.in_ok-ticks.ensures;
       ending = refl;
     }

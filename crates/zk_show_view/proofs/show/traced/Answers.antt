@@ -7,16 +7,6 @@ use Rattle.zk_forms.specs.CheckAnswer.{trace_refused}
 use Rattle.zk_show_view.proofs.Runs.{shown-view, traced-view, told-trace}
 use Rattle.zk_show_view.proofs.show.traced.Goals as goal
 
-pub overflow_cast-first_line : goal.overflow_cast-first_line
-overflow_cast-first_line c =
-    let few = lines-few c.args.front.now c.args.text.now c.requires.short in
-    omega (arith, few, c.line_count.ensures)
-
-pub overflow_add-first_line : goal.overflow_add-first_line
-overflow_add-first_line c =
-    let few = lines-few c.args.front.now c.args.text.now c.requires.short in
-    omega (arith, few, c.line_count.ensures)
-
 pub returns-in_ok-trace_refusal-in-Err-At : goal.returns-in_ok-trace_refusal-in-Err-At
 returns-in_ok-trace_refusal-in-Err-At c =
     let s = c.args.scenario.now in
@@ -24,8 +14,8 @@ returns-in_ok-trace_refusal-in-Err-At c =
     let trace = c.args.text.now in
     let line = c.in-Err-At.line in
     let told = c.in_ok-trace_refusal-in-Err-At.field-0.items in
-    let first : c.line_count.result + 1 ≡ 1 + length (lines_in front) = omega (arith, c.line_count.ensures) in
-    let at : IsRefusedAt Both s trace (c.line_count.result + 1) line = rw c.in-Err-At.field-0-is at c.in-Err-At.ensures.at in
+    let first : c.behind.result ≡ 1 + length (lines_in front) = omega (arith, c.behind.ensures) in
+    let at : IsRefusedAt Both s trace c.behind.result line = rw c.in-Err-At.field-0-is at c.in-Err-At.ensures.at in
     let says : told ≡ trace_refused line = rw c.in-Err-At.field-0-is at c.in_ok-trace_refusal-in-Err-At.ensures in
     let none = rw c.in-Err-At.field-0-is at c.in-Err-At.ensures.only in
     told-trace front trace told s line c.requires.read c.requires.parts c.requires.short c.requires.behind none

@@ -1,4 +1,4 @@
-use Rattle.std.proofs.Common.{List, false, subst, sym}
+use Rattle.std.proofs.Common.{false}
 use Rattle.std.proofs.lemmas.Result.{on_ok_weaker}
 use Rattle.zk_show_chart.proofs.BarSteps.{ends_step, ends_then}
 use Rattle.zk_show_chart.proofs.lane.Lane.visit.Goals as goal
